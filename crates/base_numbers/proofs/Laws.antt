@@ -10,9 +10,9 @@ use mir.Syntax.{w64}
 use mir.Val.{SFits, Fits}
 use borrow.Author.Tests.{ltb-true, lt-ltb, le-ltb}
 use Rattle.spec_model.specs.Basics.{names, named}
-use Rattle.base_numbers.specs.Index.{indexOf}
+use Rattle.base_numbers.specs.Index.{index_of}
 
-pub index-negative : (z : ℤ) (n : ℕ) → lt_z z (pos 0) ≡ true → n ≡ indexOf z n
+pub index-negative : (z : ℤ) (n : ℕ) → lt_z z (pos 0) ≡ true → n ≡ index_of z n
 index-negative (pos k) n h = let l : k < 0 = ltb-true k 0 h in absurd (omega arith)
 index-negative (negsuc k) n h = refl
 
@@ -20,20 +20,20 @@ pub index-cast : (z : ℤ) → lt_z z (pos 0) ≡ false → SFits w64 z → T (n
 index-cast (pos k) h f = let g : k < 2 ^ 63 = f.sfits in (tt, record { fits = omega arith })
 index-cast (negsuc k) h f = let z : ◌≡◌ {A = Bool} true false = h in let e : ◌≡◌ {A = ℕ} 0 1 = cc in absurd (omega arith)
 
-pub index-within : (z : ℤ) (n : ℕ) → lt_z z (pos 0) ≡ false → nat_abs z < n → nat_abs z ≡ indexOf z n
+pub index-within : (z : ℤ) (n : ℕ) → lt_z z (pos 0) ≡ false → nat_abs z < n → nat_abs z ≡ index_of z n
 index-within (pos k) n h l = rw (lt-ltb k n l)
 index-within (negsuc k) n h l = let z : ◌≡◌ {A = Bool} true false = h in let e : ◌≡◌ {A = ℕ} 0 1 = cc in absurd (omega arith)
 
-pub index-above : (z : ℤ) (n : ℕ) → lt_z z (pos 0) ≡ false → n ≤ nat_abs z → n ≡ indexOf z n
+pub index-above : (z : ℤ) (n : ℕ) → lt_z z (pos 0) ≡ false → n ≤ nat_abs z → n ≡ index_of z n
 index-above (pos k) n h l = rw (le-ltb k n l)
 index-above (negsuc k) n h l = refl
 
 -- For callers: i is the index of z among n.
-module _ (z : ℤ) (n i : ℕ) (e : i ≡ indexOf z n) where
+module _ (z : ℤ) (n i : ℕ) (e : i ≡ index_of z n) where
   pub index-unknown : n ≤ i → names z n ≡ false
   index-unknown l = go z e
     where
-      go : (z : ℤ) → i ≡ indexOf z n → names z n ≡ false
+      go : (z : ℤ) → i ≡ index_of z n → names z n ≡ false
       go (pos k) e = step (ltb k n) refl
         where
           step : (b : Bool) → ltb k n ≡ b → b ≡ false
@@ -44,7 +44,7 @@ module _ (z : ℤ) (n i : ℕ) (e : i ≡ indexOf z n) where
   pub index-known : i < n → (names z n ≡ true) × (named z ≡ i)
   index-known l = go z e
     where
-      go : (z : ℤ) → i ≡ indexOf z n → (names z n ≡ true) × (named z ≡ i)
+      go : (z : ℤ) → i ≡ index_of z n → (names z n ≡ true) × (named z ≡ i)
       go (pos k) e = step (ltb k n) refl
         where
           step : (b : Bool) → ltb k n ≡ b → (b ≡ true) × (k ≡ i)

@@ -2,5 +2,5 @@
 use Rattle.std.specs.Prelude.{cond, ℕ, ℤ}
 use Rattle.spec_model.specs.Basics.{names, named}
 
-abbrev pub indexOf : ℤ → ℕ → ℕ
-indexOf z n = cond (names z n) (named z) n
+abbrev pub index_of : ℤ → ℕ → ℕ
+index_of z n = cond (names z n) (named z) n

@@ -2,7 +2,7 @@
 // signed 64-bit numbers at every entry point, of which one becomes the number of a thing of which there are n. And the refusals by name.
 ghost use Rattle.std.specs.Prelude.{◌≡◌, ◌≤◌, ◌<◌, min};
 ghost use Rattle.spec_model.specs.Relations.{bit};
-ghost use Rattle.base_numbers.specs.Index.{indexOf};
+ghost use Rattle.base_numbers.specs.Index.{index_of};
 
 pub mod refusal;
 
@@ -50,7 +50,7 @@ pub fn least(a: usize, b: usize) -> usize
 
 // The number that z names, or n itself, which is none of them.
 pub fn index_of(z: i64, n: usize) -> usize
-    ensures { result ≡ indexOf z n }
+    ensures { result ≡ index_of z n }
 {
     if z < 0 {
         return n;

@@ -1,13 +1,13 @@
 // A reference on its way over the layers of a call (C11, C13, C15, A8, A9): it crosses to each target in turn, the next one from where the last one left it.
 // Arguments and answers are carried by the same functions.
 ghost use Rattle.std.specs.Prelude.{◌≡◌, true, ◌≤◌, eqb};
-ghost use Rattle.spec_model.specs.Requests.{crossLayers};
+ghost use Rattle.spec_model.specs.Requests.{cross_layers};
 ghost use Rattle.spec_model.specs.Check.{answer_of};
-ghost use Rattle.table_record.specs.Store.{tableIn, withCount};
-ghost use Rattle.state_record.specs.View.{placesIn};
-ghost use Rattle.crossing_meet.specs.Crossed.{Ready, PlaceKnown, reference, referenceOf, crossedOf, Leaves};
-ghost use Rattle.crossing_targets.specs.Targets.{targetsIn, maxLayers};
-ghost use Rattle.crossing_layers.specs.Carried.{crossTo};
+ghost use Rattle.table_record.specs.Store.{table_in, with_count};
+ghost use Rattle.state_record.specs.View.{places_in};
+ghost use Rattle.crossing_meet.specs.Crossed.{Ready, PlaceKnown, reference, reference_of, crossed_of, Leaves};
+ghost use Rattle.crossing_targets.specs.Targets.{targets_in, max_layers};
+ghost use Rattle.crossing_layers.specs.Carried.{cross_to};
 
 use base_numbers::refusal;
 use crossing_meet::Crossed;
@@ -26,10 +26,10 @@ fn carry_one(
     r: usize,
     i: usize,
 ) -> Crossed
-    requires { Ready links.now (withCount c x.types) types.old × PlaceKnown x.places x.place }
-    ensures is { crossedOf types.new links.now c result
-        ≡ crossTo (eqb i 0) (referenceOf types.old links.now c x) r (answer_of target) }
-    ensures leaves { Leaves (withCount c x.types) x.places x.ty types.old types.new result }
+    requires { Ready links.now (with_count c x.types) types.old × PlaceKnown x.places x.place }
+    ensures is { crossed_of types.new links.now c result
+        ≡ cross_to (eqb i 0) (reference_of types.old links.now c x) r (answer_of target) }
+    ensures leaves { Leaves (with_count c x.types) x.places x.ty types.old types.new result }
 {
     let ps = x.places;
     if target == 0 {
@@ -58,9 +58,9 @@ pub fn carry(
     targets: Targets,
     r: usize,
 ) -> Crossed
-    requires { Ready links.now c types.old × PlaceKnown ps p × (targets.count ≤ maxLayers) }
-    ensures is { crossedOf types.new links.now c result
-        ≡ crossLayers true (reference (tableIn types.old links.now c) (placesIn ps) s p) r (targetsIn targets) }
+    requires { Ready links.now c types.old × PlaceKnown ps p × (targets.count ≤ max_layers) }
+    ensures is { crossed_of types.new links.now c result
+        ≡ cross_layers true (reference (table_in types.old links.now c) (places_in ps) s p) r (targets_in targets) }
     ensures leaves { Leaves c ps s types.old types.new result }
 {
     let mut x = Crossed {

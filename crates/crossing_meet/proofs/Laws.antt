@@ -10,68 +10,68 @@ use lib.ListN.{length}
 use lib.Seq.{get_or-set_other}
 use borrow.Author.Tests.{eq-eqb, ne_eqb, lt-ltb, le-ltb}
 use Rattle.spec_model.specs.Basics.{Res, refuse, ok, need, try}
-use Rattle.spec_model.specs.Table.{Kind, Table, Ty, isRef, closed, maxTypes}
+use Rattle.spec_model.specs.Table.{Kind, Table, Ty, is_ref, closed, max_types}
 use Rattle.spec_model.specs.Relations.{related, conforms, strict, free}
 use Rattle.spec_model.specs.Restriction.{derived}
-use Rattle.spec_model.specs.Crossing.{Place, Reference, placeAt, placeType, maxPlaces, adapter, adapt}
+use Rattle.spec_model.specs.Crossing.{Place, Reference, place_at, place_type, max_places, adapter, adapt}
 use Rattle.spec_model.proofs.Largest.{keeps-related}
 use Rattle.spec_model.proofs.Order.{strict→loose, loose→free}
 use Rattle.spec_model.proofs.ChainLaws.{sort-eq}
-use Rattle.spec_model.specs.Refusals.{notStrict, typesFull, placesFull}
+use Rattle.spec_model.specs.Refusals.{not_strict, types_full, places_full}
 use Rattle.table_record.specs.declared.Counts.{Counts}
-use Rattle.table_record.specs.Store.{tableIn, withCount}
+use Rattle.table_record.specs.Store.{table_in, with_count}
 use Rattle.table_record.specs.Limits.{Checked}
 use Rattle.table_record.proofs.Lists.{lt-or-ge}
 use Rattle.table_record.proofs.Tables.{size_is, type-is}
-use Rattle.table_record.specs.Layout.{typesSize}
+use Rattle.table_record.specs.Layout.{types_size}
 use Rattle.derive_record.specs.declared.Derived.{Derived}
 use Rattle.derive_record.specs.declared.Derived.TheVariants.{Full, At}
-use Rattle.derive_sub_sup.specs.Link.{derivationIn, Kept, ExactAt, ExactTo, Sized, Derives}
+use Rattle.derive_sub_sup.specs.Link.{derivation_in, Kept, ExactAt, ExactTo, Sized, Derives}
 use Rattle.derive_closed.specs.Numbers.{Alike}
 use Rattle.derive_sub_sup.specs.Link.{Leaves as Left, Ready as Derivable}
 use Rattle.derive_sub_sup.proofs.Bytes.{exact_same}
 use Rattle.state_record.specs.declared.Places.{Places}
 use Rattle.state_record.specs.declared.Place.TheVariants.{Adapter}
-use Rattle.state_record.specs.View.{placesIn, blankPlace}
+use Rattle.state_record.specs.View.{places_in, blank_place}
 use Rattle.state_record.specs.Sound.{Descending}
 use Rattle.state_record.proofs.Laws.{places-length}
 use Rattle.state_record.proofs.Kept.{descending-more, typed-more}
 use Rattle.crossing_meet.specs.declared.Landing.TheVariants as landing
 use Rattle.crossing_meet.specs.declared.Crossed.{Crossed}
-use Rattle.crossing_meet.specs.Crossed.{Ready, reference, referenceOf, crossedOf, Grew, Came, Leaves, stopped, landed}
+use Rattle.crossing_meet.specs.Crossed.{Ready, reference, reference_of, crossed_of, Grew, Came, Leaves, stopped, landed}
 
 -- R meets the type of place p.
-module _ (t : Table) (ps : List Place) (to r p v : ℕ) (is : v ≡ placeType (placeAt ps p)) where
+module _ (t : Table) (ps : List Place) (to r p v : ℕ) (is : v ≡ place_type (place_at ps p)) where
   abbrev Meets : Bool → Bool → Res (Table × ℕ) → Bool → Res Reference
   Meets passes fits d room = elim passes [
     | true ↦ ok (reference t ps to p)
-    | false ↦ need fits notStrict λ _. try d λ x. need room placesFull λ _. ok (reference x.0 (ps ++ (adapter p x.1 ∷ [])) to (length ps))
+    | false ↦ need fits not_strict λ _. try d λ x. need room places_full λ _. ok (reference x.0 (ps ++ (adapter p x.1 ∷ [])) to (length ps))
   ]
 
-  adapt-is : adapt t ps to r p ≡ Meets (related conforms t r v) (related strict t r v) (derived t closed r v) (ltb (length ps) maxPlaces)
+  adapt-is : adapt t ps to r p ≡ Meets (related conforms t r v) (related strict t r v) (derived t closed r v) (ltb (length ps) max_places)
   unfolding adapt
-  adapt-is = ap (λ (z : ℕ). Meets (related conforms t r z) (related strict t r z) (derived t closed r z) (ltb (length ps) maxPlaces)) (sym is)
+  adapt-is = ap (λ (z : ℕ). Meets (related conforms t r z) (related strict t r z) (derived t closed r z) (ltb (length ps) max_places)) (sym is)
 
   meet-passes : related conforms t r v ≡ true → ok (reference t ps to p) ≡ adapt t ps to r p
   meet-passes e = sym (adapt-is ∙ rw e)
 
   module _ (less : related conforms t r v ≡ false) where
-    meet-not-strict : related strict t r v ≡ false → refuse notStrict ≡ adapt t ps to r p
+    meet-not-strict : related strict t r v ≡ false → refuse not_strict ≡ adapt t ps to r p
     meet-not-strict e = sym (adapt-is ∙ rw (less, e))
 
     module _ (met : related strict t r v ≡ true) where
-      meet-types-full : refuse typesFull ≡ derived t closed r v → refuse typesFull ≡ adapt t ps to r p
+      meet-types-full : refuse types_full ≡ derived t closed r v → refuse types_full ≡ adapt t ps to r p
       meet-types-full e = sym (adapt-is ∙ rw (less, met, ← e))
 
       module _ (u : Table) (i : ℕ) (e : ok (u, i) ≡ derived t closed r v) where
-        meet-places-full : ltb (length ps) maxPlaces ≡ false → refuse placesFull ≡ adapt t ps to r p
+        meet-places-full : ltb (length ps) max_places ≡ false → refuse places_full ≡ adapt t ps to r p
         meet-places-full f = sym (adapt-is ∙ rw (less, met, ← e, f))
 
-        meet-adapts : ltb (length ps) maxPlaces ≡ true → ok (reference u (ps ++ (adapter p i ∷ [])) to (length ps)) ≡ adapt t ps to r p
+        meet-adapts : ltb (length ps) max_places ≡ true → ok (reference u (ps ++ (adapter p i ∷ [])) to (length ps)) ≡ adapt t ps to r p
         meet-adapts f = sym (adapt-is ∙ rw (less, met, ← e, f))
 
 -- ---- What a crossing leaves.
-pub grown-checked : (l : List ℕ) (c : Counts) (m : ℕ) → Checked l c → c.types ≤ m → m ≤ maxTypes → Checked l (withCount c m)
+pub grown-checked : (l : List ℕ) (c : Counts) (m : ℕ) → Checked l c → c.types ≤ m → m ≤ max_types → Checked l (with_count c m)
 grown-checked l c m h p q = let x = h.limits in record {
   limits = record { subjects = x.subjects; methods = x.methods; cats = x.cats; sheet = x.sheet; counted = let u = x.counted in omega arith; types = q };
   descends = h.descends;
@@ -80,11 +80,11 @@ grown-checked l c m h p q = let x = h.limits in record {
 pub same_kept : (n : ℕ) (b : List ℕ) → Kept n b b
 same_kept n b i h = refl
 
-pub none-new : (c : Counts) (b : List ℕ) → c.types ≤ maxTypes → Grew c c.types b
+pub none-new : (c : Counts) (b : List ℕ) → c.types ≤ max_types → Grew c c.types b
 none-new c b h = record { more = omega arith; room = h; exact = λ i p q. absurd (omega arith) }
 
 -- new types behind new types
-pub grew-on : (c : Counts) (m n : ℕ) (b b' : List ℕ) → Grew c m b → Kept m b b' → Grew (withCount c m) n b' → Grew c n b'
+pub grew-on : (c : Counts) (m n : ℕ) (b b' : List ℕ) → Grew c m b → Kept m b b' → Grew (with_count c m) n b' → Grew c n b'
 grew-on c m n b b' g k h = record {
   more = let u = g.more in let w = h.more in omega arith;
   room = h.room;
@@ -107,23 +107,23 @@ pub equal : {m n : ℕ} → m ≡ n → eqb m n ≡ true
 equal {m} {n} h = eq-eqb m n h
 
 -- what the next crossing asks
-pub ready_on : (l : List ℕ) (c : Counts) (n : ℕ) (b b' : List ℕ) → Ready l c b → Grew c n b' → length b' ≡ typesSize → Ready l (withCount c n) b'
+pub ready_on : (l : List ℕ) (c : Counts) (n : ℕ) (b b' : List ℕ) → Ready l c b → Grew c n b' → length b' ≡ types_size → Ready l (with_count c n) b'
 ready_on l c n b b' h g long = record { checked = grown-checked l c n h.checked g.more g.room; long = long }
 
 -- ---- What came of it.
 abbrev Comes : ℕ → Res Reference → Bool → Res Reference
 Comes e f z = elim z [ false ↦ refuse e | true ↦ f ]
 
-pub refused-is : (b l : List ℕ) (c : Counts) (x : Crossed) → (x.refusal ≡ 0 → ⊥) → crossedOf b l c x ≡ refuse x.refusal
-refused-is b l c x h = ap (Comes x.refusal (ok (referenceOf b l c x))) (differ h)
+pub refused-is : (b l : List ℕ) (c : Counts) (x : Crossed) → (x.refusal ≡ 0 → ⊥) → crossed_of b l c x ≡ refuse x.refusal
+refused-is b l c x h = ap (Comes x.refusal (ok (reference_of b l c x))) (differ h)
 
-pub came-is : (b l : List ℕ) (c : Counts) (x : Crossed) → x.refusal ≡ 0 → crossedOf b l c x ≡ ok (referenceOf b l c x)
-came-is b l c x h = ap (Comes x.refusal (ok (referenceOf b l c x))) (equal h)
+pub came-is : (b l : List ℕ) (c : Counts) (x : Crossed) → x.refusal ≡ 0 → crossed_of b l c x ≡ ok (reference_of b l c x)
+came-is b l c x h = ap (Comes x.refusal (ok (reference_of b l c x))) (equal h)
 
 -- a refusal with the number e, of what the model refuses with it
-pub stops : (b b' l : List ℕ) (c : Counts) (ps : Places) (s e : ℕ) → 0 < e → {m : Res Reference} → refuse e ≡ m → length b' ≡ typesSize → Kept c.types b b' →
-    (q : Crossed) → q ≡ stopped ps e → (crossedOf b' l c q ≡ m) × Leaves c ps s b b' q
-stops b b' l c ps s e low {m} is long kept q z = subst (λ (x : Crossed). (crossedOf b' l c x ≡ m) × Leaves c ps s b b' x) (sym z) (
+pub stops : (b b' l : List ℕ) (c : Counts) (ps : Places) (s e : ℕ) → 0 < e → {m : Res Reference} → refuse e ≡ m → length b' ≡ types_size → Kept c.types b b' →
+    (q : Crossed) → q ≡ stopped ps e → (crossed_of b' l c q ≡ m) × Leaves c ps s b b' q
+stops b b' l c ps s e low {m} is long kept q z = subst (λ (x : Crossed). (crossed_of b' l c x ≡ m) × Leaves c ps s b b' x) (sym z) (
   refused-is b' l c (stopped ps e) (λ y. omega (arith, y, low)) ∙ is,
   record { long = long; kept = kept; came = λ y. absurd (omega (arith, y, low)) },
 )
@@ -144,7 +144,7 @@ module _ (c : Counts) (ps : Places) (s : ℕ) (b b₁ : List ℕ) (x : Crossed) 
   came : Came c ps s b₁ x
   came = h.came z
 
-  pub leaves-on : (b₂ : List ℕ) (q : Crossed) → Leaves (withCount c x.types) x.places x.ty b₁ b₂ q → Leaves c ps s b b₂ q
+  pub leaves-on : (b₂ : List ℕ) (q : Crossed) → Leaves (with_count c x.types) x.places x.ty b₁ b₂ q → Leaves c ps s b b₂ q
   leaves-on b₂ q k = record {
     long = k.long;
     kept = λ j y. k.kept j (let u = came.types.more in omega arith) ∙ h.kept j y;
@@ -162,31 +162,31 @@ module _ (c : Counts) (ps : Places) (s : ℕ) (b b₁ : List ℕ) (x : Crossed) 
   }
 
 -- what a derivation asks, of two types that are related
-pub derivable : (b l : List ℕ) (c : Counts) → Ready l c b → (t s : ℕ) → So (related free (tableIn b l c) t s) → Derivable c c.types t s b
+pub derivable : (b l : List ℕ) (c : Counts) → Ready l c b → (t s : ℕ) → So (related free (table_in b l c) t s) → Derivable c c.types t s b
 derivable b l c h t s e =
-    let q = keeps-related free (tableIn b l c) t s e in
+    let q = keeps-related free (table_in b l c) t s e in
     let low : t < c.types = subst (λ (n : ℕ). t < n) (size_is b l c) q.low in
     let high : s < c.types = subst (λ (n : ℕ). s < n) (size_is b l c) q.high in
     let n = h.checked.limits.types in
     record { limits = h.checked.limits; left = omega arith; right = omega arith; long = h.long }
 
 -- ---- X6 to X10: R is r, and the type of place p is v.
-module _ (b l : List ℕ) (c : Counts) (h : Ready l c b) (ps : Places) (desc : Descending ps) (to r p : ℕ) (place : p < ps.count) (v : ℕ) (is : v ≡ placeType (placeAt (placesIn ps) p)) where
+module _ (b l : List ℕ) (c : Counts) (h : Ready l c b) (ps : Places) (desc : Descending ps) (to r p : ℕ) (place : p < ps.count) (v : ℕ) (is : v ≡ place_type (place_at (places_in ps) p)) where
   abbrev U : Table
-  U = tableIn b l c
+  U = table_in b l c
 
   abbrev Meets-as : List ℕ → Crossed → Type 0
-  Meets-as b' q = (crossedOf b' l c q ≡ adapt U (placesIn ps) to r p) × Leaves c ps to b b' q
+  Meets-as b' q = (crossed_of b' l c q ≡ adapt U (places_in ps) to r p) × Leaves c ps to b b' q
 
   pub meets-passes : true ≡ related conforms U r v → (q : Crossed) → q ≡ landed ps to (landing.Stands p) c.types → Meets-as b q
   meets-passes e q z = subst (Meets-as b) (sym z) (
-    meet-passes U (placesIn ps) to r p v is (sym e),
+    meet-passes U (places_in ps) to r p v is (sym e),
     record { long = h.long; kept = same_kept c.types b; came = λ _. stands c ps to to p c.types b desc place (none-new c b h.checked.limits.types) (λ k. k) },
   )
 
   module _ (less : false ≡ related conforms U r v) where
-    pub meets-not-strict : false ≡ related strict U r v → (q : Crossed) → q ≡ stopped ps notStrict → Meets-as b q
-    meets-not-strict e = stops b b l c ps to notStrict (omega arith) (meet-not-strict U (placesIn ps) to r p v is (sym less) (sym e)) h.long (same_kept c.types b)
+    pub meets-not-strict : false ≡ related strict U r v → (q : Crossed) → q ≡ stopped ps not_strict → Meets-as b q
+    meets-not-strict e = stops b b l c ps to not_strict (omega arith) (meet-not-strict U (places_in ps) to r p v is (sym less) (sym e)) h.long (same_kept c.types b)
 
     module _ (met : true ≡ related strict U r v) where
       meets-free : So (related free U r v)
@@ -202,17 +202,17 @@ module _ (b l : List ℕ) (c : Counts) (h : Ready l c b) (ps : Places) (desc : D
             record {
               left = low;
               right = high;
-              same = sym (ap (λ (x : Ty). isRef x.rep) (type-is b l c r low)) ∙ sort-eq U r v meets-free ∙ ap (λ (x : Ty). isRef x.rep)
+              same = sym (ap (λ (x : Ty). is_ref x.rep) (type-is b l c r low)) ∙ sort-eq U r v meets-free ∙ ap (λ (x : Ty). is_ref x.rep)
                   (type-is b l c v high);
             },
           )
 
       module _ (b' : List ℕ) (d : Derived) (g : Derives closed c r v b b' d) where
-        gives : (x : Derived) → d ≡ x → derivationIn b' l c x ≡ derived U closed r v
-        gives x e = sym (ap (derivationIn b' l c) e) ∙ g.is l
+        gives : (x : Derived) → d ≡ x → derivation_in b' l c x ≡ derived U closed r v
+        gives x e = sym (ap (derivation_in b' l c) e) ∙ g.is l
 
-        pub meets-types-full : d ≡ Full → (q : Crossed) → q ≡ stopped ps typesFull → Meets-as b' q
-        meets-types-full e = stops b b' l c ps to typesFull (omega arith) (meet-types-full U (placesIn ps) to r p v is (sym less) (sym met) (gives Full e)) g.keeps.long g.keeps.kept
+        pub meets-types-full : d ≡ Full → (q : Crossed) → q ≡ stopped ps types_full → Meets-as b' q
+        meets-types-full e = stops b b' l c ps to types_full (omega arith) (meet-types-full U (places_in ps) to r p v is (sym less) (sym met) (gives Full e)) g.keeps.long g.keeps.kept
 
         module _ (i m : ℕ) (e : d ≡ At i m) where
           closed-low : i < m
@@ -223,24 +223,24 @@ module _ (b l : List ℕ) (c : Counts) (h : Ready l c b) (ps : Places) (desc : D
           pub closed-byte : i < 256
           closed-byte = let z = derives-sized c.types r v e g.keeps in let w = closed-low in let u = z.1 in omega arith
 
-          pub meets-places-full : maxPlaces ≤ ps.count → (q : Crossed) → q ≡ stopped ps placesFull → Meets-as b' q
-          meets-places-full f = stops b b' l c ps to placesFull (omega arith)
-              (meet-places-full U (placesIn ps) to r p v is (sym less) (sym met) (tableIn b' l (withCount c m)) i (gives (At i m) e)
-              (ap (λ (n : ℕ). ltb n maxPlaces) (places-length ps) ∙ le-ltb ps.count maxPlaces f))
+          pub meets-places-full : max_places ≤ ps.count → (q : Crossed) → q ≡ stopped ps places_full → Meets-as b' q
+          meets-places-full f = stops b b' l c ps to places_full (omega arith)
+              (meet-places-full U (places_in ps) to r p v is (sym less) (sym met) (table_in b' l (with_count c m)) i (gives (At i m) e)
+              (ap (λ (n : ℕ). ltb n max_places) (places-length ps) ∙ le-ltb ps.count max_places f))
               g.keeps.long g.keeps.kept
 
           -- the adapter's record has x and y
-          module _ (f : ps.count < maxPlaces) (x y : ℕ) (ex : x ≡ p) (ey : y ≡ i) where
+          module _ (f : ps.count < max_places) (x y : ℕ) (ex : x ≡ p) (ey : y ≡ i) where
             abbrev New : Crossed
             New = landed ps to (landing.Adapter (record { place = Adapter x y })) m
 
-            adapts : placesIn New.places ≡ placesIn ps ++ (adapter x y ∷ []) → Meets-as b' New
+            adapts : places_in New.places ≡ places_in ps ++ (adapter x y ∷ []) → Meets-as b' New
             adapts are = (
-              ap (λ (k : List Place). ok (reference (tableIn b' l (withCount c m)) k to ps.count)) (are ∙ ap (λ (k : ℕ). placesIn ps ++ (adapter k y ∷ [])) ex
-                  ∙ ap (λ (k : ℕ). placesIn ps ++ (adapter p k ∷ [])) ey)
-                  ∙ ap (λ (k : ℕ). ok (reference (tableIn b' l (withCount c m)) (placesIn ps ++ (adapter p i ∷ [])) to k)) (sym (places-length ps))
-                  ∙ meet-adapts U (placesIn ps) to r p v is (sym less) (sym met) (tableIn b' l (withCount c m)) i (gives (At i m) e)
-                  (ap (λ (n : ℕ). ltb n maxPlaces) (places-length ps) ∙ lt-ltb ps.count maxPlaces f),
+              ap (λ (k : List Place). ok (reference (table_in b' l (with_count c m)) k to ps.count)) (are ∙ ap (λ (k : ℕ). places_in ps ++ (adapter k y ∷ [])) ex
+                  ∙ ap (λ (k : ℕ). places_in ps ++ (adapter p k ∷ [])) ey)
+                  ∙ ap (λ (k : ℕ). ok (reference (table_in b' l (with_count c m)) (places_in ps ++ (adapter p i ∷ [])) to k)) (sym (places-length ps))
+                  ∙ meet-adapts U (places_in ps) to r p v is (sym less) (sym met) (table_in b' l (with_count c m)) i (gives (At i m) e)
+                  (ap (λ (n : ℕ). ltb n max_places) (places-length ps) ∙ lt-ltb ps.count max_places f),
               record {
                 long = g.keeps.long;
                 kept = g.keeps.kept;
@@ -249,11 +249,11 @@ module _ (b l : List ℕ) (c : Counts) (h : Ready l c b) (ps : Places) (desc : D
                   types = w;
                   descending = descending-more ps New.places (adapter x y) refl are desc f (λ _. omega (arith, ex, place));
                   place = omega arith;
-                  typed = λ t. typed-more ps New.places (adapter x y) refl are (withCount c m) (λ k u. let n = t k u in let o = w.more in omega arith) (omega (arith, ey, closed-low));
-                  before = record { more = omega arith; same = λ k u. get_or-set_other ps.list ps.count k (record { place = Adapter x y }) blankPlace (λ n. omega (arith, n, u)) };
+                  typed = λ t. typed-more ps New.places (adapter x y) refl are (with_count c m) (λ k u. let n = t k u in let o = w.more in omega arith) (omega (arith, ey, closed-low));
+                  before = record { more = omega arith; same = λ k u. get_or-set_other ps.list ps.count k (record { place = Adapter x y }) blank_place (λ n. omega (arith, n, u)) };
                 };
               },
             )
 
-            pub meets-adapts : (q : Crossed) → (q ≡ New) × (placesIn q.places ≡ placesIn ps ++ (adapter x y ∷ [])) → Meets-as b' q
-            meets-adapts q k = subst (Meets-as b') (sym k.0) (adapts (sym (ap (λ (z : Crossed). placesIn z.places) k.0) ∙ k.1))
+            pub meets-adapts : (q : Crossed) → (q ≡ New) × (places_in q.places ≡ places_in ps ++ (adapter x y ∷ [])) → Meets-as b' q
+            meets-adapts q k = subst (Meets-as b') (sym k.0) (adapts (sym (ap (λ (z : Crossed). places_in z.places) k.0) ∙ k.1))

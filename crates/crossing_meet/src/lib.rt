@@ -3,11 +3,11 @@
 ghost use Rattle.std.specs.Prelude.{◌≡◌};
 ghost use Rattle.spec_model.specs.Crossing.{adapt};
 ghost use Rattle.spec_model.specs.Relations.{related};
-ghost use Rattle.table_record.specs.Store.{tableIn};
+ghost use Rattle.table_record.specs.Store.{table_in};
 ghost use Rattle.table_record.specs.Limits.{Checked};
-ghost use Rattle.relation_states.specs.Asked.{relationOf};
-ghost use Rattle.state_record.specs.View.{placesIn};
-ghost use Rattle.crossing_meet.specs.Crossed.{Ready, PlaceKnown, crossedOf, Leaves, stopped, landed, Room, placesWith};
+ghost use Rattle.relation_states.specs.Asked.{relation_of};
+ghost use Rattle.state_record.specs.View.{places_in};
+ghost use Rattle.crossing_meet.specs.Crossed.{Ready, PlaceKnown, crossed_of, Leaves, stopped, landed, Room, places_with};
 
 use base_numbers::{narrow, refusal};
 use derive_record::Derived;
@@ -43,7 +43,7 @@ pub fn asked(
     s: usize,
 ) -> bool
     requires { Checked links.now c }
-    ensures { result ≡ related (relationOf k) (tableIn types.now links.now c) t s }
+    ensures { result ≡ related (relation_of k) (table_in types.now links.now c) t s }
 {
     relation_search::related_at(types, links, c, k, t, s)
 }
@@ -64,7 +64,7 @@ pub fn refused(ps: Places, number: usize) -> Crossed
 // A new adapter becomes the next place, so that the next crossing and the new cell find it.
 pub fn land(ps: Places, ty: usize, x: Landing, types: usize) -> Crossed
     requires { Room ps x }
-    ensures { (result ≡ landed ps ty x types) × (placesIn result.places ≡ placesWith (placesIn ps) x) }
+    ensures { (result ≡ landed ps ty x types) × (places_in result.places ≡ places_with (places_in ps) x) }
 {
     match x {
         Landing::Stands(place) => Crossed {
@@ -96,8 +96,8 @@ pub fn meet(
     p: usize,
 ) -> Crossed
     requires { Ready links.now c types.old × PlaceKnown ps p }
-    ensures is { crossedOf types.new links.now c result
-        ≡ adapt (tableIn types.old links.now c) (placesIn ps) to right p }
+    ensures is { crossed_of types.new links.now c result
+        ≡ adapt (table_in types.old links.now c) (places_in ps) to right p }
     ensures leaves { Leaves c ps to types.old types.new result }
 {
     let v = state_places::place_type(state_record::place_at(ps, p));

@@ -9,59 +9,59 @@ use lib.Dec.{eqb}
 use lib.ListN.{get_or}
 use borrow.Author.Tests.{lt-ltb, le-ltb}
 use Rattle.spec_model.specs.Basics.{refuse, ok, ◌⇒◌}
-use Rattle.spec_model.specs.Table.{Table, Ty, isAvail, permit, type_at, sub}
-use Rattle.spec_model.specs.Relations.{related, subtype, loose, free, outerRule, stateLe, sameRep}
+use Rattle.spec_model.specs.Table.{Table, Ty, is_avail, permit, type_at, sub}
+use Rattle.spec_model.specs.Relations.{related, subtype, loose, free, outer_rule, state_le, same_rep}
 use Rattle.spec_model.specs.Restriction.{derived}
-use Rattle.spec_model.specs.Crossing.{Place, base_of, baseOwner, adapt, cross}
-use Rattle.spec_model.specs.Check.{noRawType}
+use Rattle.spec_model.specs.Crossing.{Place, base_of, base_owner, adapt, cross}
+use Rattle.spec_model.specs.Check.{no_raw_type}
 use Rattle.spec_model.proofs.Largest.{keeps-related}
 use Rattle.spec_model.proofs.Rules.{first, applied}
 use Rattle.spec_model.proofs.States.{each₂}
 use Rattle.spec_model.proofs.Order.{weaken, same-sort, loose→free}
-use Rattle.spec_model.specs.Refusals.{unrelated, notOwner, typesFull}
+use Rattle.spec_model.specs.Refusals.{unrelated, not_owner, types_full}
 use Rattle.table_record.specs.declared.Counts.{Counts}
-use Rattle.table_record.specs.Store.{types_in, tableIn, withCount, own_of}
+use Rattle.table_record.specs.Store.{types_in, table_in, with_count, own_of}
 use Rattle.table_record.proofs.Lists.{lt-or-ge}
 use Rattle.table_record.proofs.Tables.{size_is, type-is, type-out}
 use Rattle.derive_record.specs.declared.Derived.{Derived}
 use Rattle.derive_record.specs.declared.Derived.TheVariants.{Full, At}
-use Rattle.derive_sub_sup.specs.Link.{derivationIn, Derives, Ready as Derivable}
+use Rattle.derive_sub_sup.specs.Link.{derivation_in, Derives, Ready as Derivable}
 use Rattle.state_record.specs.declared.Places.{Places}
-use Rattle.state_record.specs.View.{placesIn}
+use Rattle.state_record.specs.View.{places_in}
 use Rattle.state_record.specs.Sound.{Descending}
 use Rattle.state_places.specs.Behind.{BaseAt}
 use Rattle.crossing_meet.specs.declared.Landing.TheVariants as landing
 use Rattle.crossing_meet.specs.declared.Crossed.{Crossed}
-use Rattle.crossing_meet.specs.Crossed.{Ready, reference, crossedOf, Leaves, stopped, landed}
+use Rattle.crossing_meet.specs.Crossed.{Ready, reference, crossed_of, Leaves, stopped, landed}
 use Rattle.crossing_meet.proofs.Laws.{same_kept, none-new, derives-grew, differ, equal, ready_on, stops, stands, leaves-on, derivable}
 use Rattle.crossing_one.specs.declared.Crossing.{Crossing}
-use Rattle.crossing_one.specs.Crosses.{ownIn, crossing}
+use Rattle.crossing_one.specs.Crosses.{own_in, crossing}
 
 -- A subtype is loosely related (R8, R10): where X4 holds, X1 does.
 subtype→loose : (t : Table) (a b : ℕ) → So (related subtype t a b) → So (related loose t a b)
-unfolding outerRule
-subtype→loose t = weaken subtype loose t (λ a b h. same-sort a.rep b.rep (first (sameRep a.rep b.rep) _ h))
-    (λ a b. applied (each₂ (λ a b. stateLe a b ⇒ (isAvail a ⇒ permit b)) refl a b))
+unfolding outer_rule
+subtype→loose t = weaken subtype loose t (λ a b h. same-sort a.rep b.rep (first (same_rep a.rep b.rep) _ h))
+    (λ a b. applied (each₂ (λ a b. state_le a b ⇒ (is_avail a ⇒ permit b)) refl a b))
 
 -- ---- The definitions, case by case.
 module _ (t : Table) (ps : List Place) (s p to r : ℕ) where
   -- an own target
-  module _ (own : (type_at t to).own_val ≡ true) where
+  module _ (own : (type_at t to).own ≡ true) where
     own-unrelated : related free t to s ≡ false → refuse unrelated ≡ cross (reference t ps s p) to r
     unfolding cross
     own-unrelated e = rw (own, e)
 
     module _ (met : related free t to s ≡ true) where
-      own-not-owner : eqb r (baseOwner ps p) ≡ false → refuse notOwner ≡ cross (reference t ps s p) to r
+      own-not-owner : eqb r (base_owner ps p) ≡ false → refuse not_owner ≡ cross (reference t ps s p) to r
       unfolding cross
       own-not-owner e = rw (own, met, e)
 
-      own_meets : eqb r (baseOwner ps p) ≡ true → adapt t ps to to (base_of ps p) ≡ cross (reference t ps s p) to r
+      own_meets : eqb r (base_owner ps p) ≡ true → adapt t ps to to (base_of ps p) ≡ cross (reference t ps s p) to r
       unfolding cross
       own_meets e = rw (own, met, e)
 
   -- any other
-  module _ (own : (type_at t to).own_val ≡ false) where
+  module _ (own : (type_at t to).own ≡ false) where
     other-unrelated : related loose t to s ≡ false → refuse unrelated ≡ cross (reference t ps s p) to r
     unfolding cross
     other-unrelated e = rw (own, e)
@@ -72,7 +72,7 @@ module _ (t : Table) (ps : List Place) (s p to r : ℕ) where
       other-stays e = rw (own, met, e)
 
       module _ (less : related subtype t to s ≡ false) where
-        other-types-full : refuse typesFull ≡ derived t sub to s → refuse typesFull ≡ cross (reference t ps s p) to r
+        other-types-full : refuse types_full ≡ derived t sub to s → refuse types_full ≡ cross (reference t ps s p) to r
         unfolding cross
         other-types-full e = rw (own, met, less, ← e)
 
@@ -81,53 +81,53 @@ module _ (t : Table) (ps : List Place) (s p to r : ℕ) where
         other-meets u i e = rw (own, met, less, ← e)
 
 -- ---- The own flag.
-pub own_out : (n t : ℕ) (b : List ℕ) → n ≤ t → false ≡ ownIn n b t
-own_out n t b h = ap (λ (z : Bool). z && own_of (get_or (types_in b) t noRawType)) (sym (le-ltb t n h))
+pub own_out : (n t : ℕ) (b : List ℕ) → n ≤ t → false ≡ own_in n b t
+own_out n t b h = ap (λ (z : Bool). z && own_of (get_or (types_in b) t no_raw_type)) (sym (le-ltb t n h))
 
-pub own_in : (n t : ℕ) (b : List ℕ) (plain : Bool) → t < n → plain ≡ not (own_of (get_or (types_in b) t noRawType)) → not plain ≡ ownIn n b t
-own_in n t b plain h e = ap not e ∙ twice (own_of (get_or (types_in b) t noRawType)) ∙ ap (λ (z : Bool). z && own_of (get_or (types_in b) t noRawType)) (sym (lt-ltb t n h))
+pub own-in : (n t : ℕ) (b : List ℕ) (plain : Bool) → t < n → plain ≡ not (own_of (get_or (types_in b) t no_raw_type)) → not plain ≡ own_in n b t
+own-in n t b plain h e = ap not e ∙ twice (own_of (get_or (types_in b) t no_raw_type)) ∙ ap (λ (z : Bool). z && own_of (get_or (types_in b) t no_raw_type)) (sym (lt-ltb t n h))
   where
     twice : (z : Bool) → not (not z) ≡ true && z
     twice true = refl
     twice false = refl
 
-own-table : (b l : List ℕ) (c : Counts) (t : ℕ) → (type_at (tableIn b l c) t).own_val ≡ ownIn c.types b t
+own-table : (b l : List ℕ) (c : Counts) (t : ℕ) → (type_at (table_in b l c) t).own ≡ own_in c.types b t
 own-table b l c t = go (lt-or-ge t c.types) where
-  go : (t < c.types) ⊎ (c.types ≤ t) → (type_at (tableIn b l c) t).own_val ≡ ownIn c.types b t
-  go (inl h) = ap (λ (x : Ty). x.own) (type-is b l c t h) ∙ ap (λ (z : Bool). z && own_of (get_or (types_in b) t noRawType)) (sym (lt-ltb t c.types h))
+  go : (t < c.types) ⊎ (c.types ≤ t) → (type_at (table_in b l c) t).own ≡ own_in c.types b t
+  go (inl h) = ap (λ (x : Ty). x.own) (type-is b l c t h) ∙ ap (λ (z : Bool). z && own_of (get_or (types_in b) t no_raw_type)) (sym (lt-ltb t c.types h))
   go (inr h) = ap (λ (x : Ty). x.own) (type-out b l c t h) ∙ own_out c.types t b h
 
 -- what a derivation of Sub asks, of two types that are related
-pub sub-asked : (b l : List ℕ) (c : Counts) → Ready l c b → (t s : ℕ) → true ≡ related loose (tableIn b l c) t s → Derivable c c.types t s b
-sub-asked b l c h t s e = derivable b l c h t s (loose→free (tableIn b l c) t s (sym e))
+pub sub-asked : (b l : List ℕ) (c : Counts) → Ready l c b → (t s : ℕ) → true ≡ related loose (table_in b l c) t s → Derivable c c.types t s b
+sub-asked b l c h t s e = derivable b l c h t s (loose→free (table_in b l c) t s (sym e))
 
 -- ---- X1 to X5: the table is that of bytes b, and x crosses.
 module _ (b l : List ℕ) (c : Counts) (h : Ready l c b) (ps : Places) (x : Crossing) where
   abbrev T : Table
-  T = tableIn b l c
+  T = table_in b l c
 
   abbrev Crosses : List ℕ → Crossed → Type 0
-  Crosses b' q = (crossedOf b' l c q ≡ crossing T ps x) × Leaves c ps x.from b b' q
+  Crosses b' q = (crossed_of b' l c q ≡ crossing T ps x) × Leaves c ps x.from b b' q
 
   -- the target is a type of the table, so what comes of the meeting is known of any static type before it
   known : So (related free T x.to x.from) → x.to < c.types
   known e = subst (λ (n : ℕ). x.to < n) (size_is b l c) (keeps-related free T x.to x.from e).low
 
-  module _ (own : ownIn c.types b x.to ≡ true) where
+  module _ (own : own_in c.types b x.to ≡ true) where
     pub unwrap-unrelated : false ≡ related free T x.to x.from → (q : Crossed) → q ≡ stopped ps unrelated → Crosses b q
-    unwrap-unrelated e = stops b b l c ps x.from unrelated (omega arith) (own-unrelated T (placesIn ps) x.from x.place x.to x.receiver (own-table b l c x.to ∙ own) (sym e)) h.long
+    unwrap-unrelated e = stops b b l c ps x.from unrelated (omega arith) (own-unrelated T (places_in ps) x.from x.place x.to x.receiver (own-table b l c x.to ∙ own) (sym e)) h.long
         (same_kept c.types b)
 
-    module _ (met : true ≡ related free T x.to x.from) (o : ℕ) (is : o ≡ baseOwner (placesIn ps) x.place) where
-      pub unwrap-not-owner : (o ≡ x.receiver → ⊥) → (q : Crossed) → q ≡ stopped ps notOwner → Crosses b q
-      unwrap-not-owner e = stops b b l c ps x.from notOwner (omega arith)
-          (own-not-owner T (placesIn ps) x.from x.place x.to x.receiver (own-table b l c x.to ∙ own) (sym met) (differ (λ z. e (is ∙ sym z)))) h.long (same_kept c.types b)
+    module _ (met : true ≡ related free T x.to x.from) (o : ℕ) (is : o ≡ base_owner (places_in ps) x.place) where
+      pub unwrap-not-owner : (o ≡ x.receiver → ⊥) → (q : Crossed) → q ≡ stopped ps not_owner → Crosses b q
+      unwrap-not-owner e = stops b b l c ps x.from not_owner (omega arith)
+          (own-not-owner T (places_in ps) x.from x.place x.to x.receiver (own-table b l c x.to ∙ own) (sym met) (differ (λ z. e (is ∙ sym z)))) h.long (same_kept c.types b)
 
       pub unwrap_meets : o ≡ x.receiver → (base : ℕ) → BaseAt ps x.place base → (b' : List ℕ) (q : Crossed) →
-          crossedOf b' l c q ≡ adapt T (placesIn ps) x.to x.to base → Leaves c ps x.to b b' q → Crosses b' q
+          crossed_of b' l c q ≡ adapt T (places_in ps) x.to x.to base → Leaves c ps x.to b b' q → Crosses b' q
       unwrap_meets e base at b' q m k = (
-        m ∙ ap (adapt T (placesIn ps) x.to x.to) at.is
-            ∙ own_meets T (placesIn ps) x.from x.place x.to x.receiver (own-table b l c x.to ∙ own) (sym met) (equal (sym e ∙ is)),
+        m ∙ ap (adapt T (places_in ps) x.to x.to) at.is
+            ∙ own_meets T (places_in ps) x.from x.place x.to x.receiver (own-table b l c x.to ∙ own) (sym met) (equal (sym e ∙ is)),
         record {
           long = k.long;
           kept = k.kept;
@@ -136,14 +136,14 @@ module _ (b l : List ℕ) (c : Counts) (h : Ready l c b) (ps : Places) (x : Cros
         },
       )
 
-  module _ (desc : Descending ps) (place : x.place < ps.count) (own : ownIn c.types b x.to ≡ false) where
+  module _ (desc : Descending ps) (place : x.place < ps.count) (own : own_in c.types b x.to ≡ false) where
     pub restrict-unrelated : false ≡ related loose T x.to x.from → (q : Crossed) → q ≡ stopped ps unrelated → Crosses b q
     restrict-unrelated e = stops b b l c ps x.from unrelated (omega arith)
-        (other-unrelated T (placesIn ps) x.from x.place x.to x.receiver (own-table b l c x.to ∙ own) (sym e)) h.long (same_kept c.types b)
+        (other-unrelated T (places_in ps) x.from x.place x.to x.receiver (own-table b l c x.to ∙ own) (sym e)) h.long (same_kept c.types b)
 
     pub restrict-stays : true ≡ related subtype T x.to x.from → (q : Crossed) → q ≡ landed ps x.to (landing.Stands x.place) c.types → Crosses b q
     restrict-stays e q z = let met = subtype→loose T x.to x.from (sym e) in subst (Crosses b) (sym z) (
-      other-stays T (placesIn ps) x.from x.place x.to x.receiver (own-table b l c x.to ∙ own) met (sym e),
+      other-stays T (places_in ps) x.from x.place x.to x.receiver (own-table b l c x.to ∙ own) met (sym e),
       record {
         long = h.long;
         kept = same_kept c.types b;
@@ -156,14 +156,14 @@ module _ (b l : List ℕ) (c : Counts) (h : Ready l c b) (ps : Places) (x : Cros
       low = known (loose→free T x.to x.from (sym met))
 
       module _ (less : false ≡ related subtype T x.to x.from) (b₁ : List ℕ) (d : Derived) (g : Derives sub c x.to x.from b b₁ d) where
-        answer : (y : Derived) → d ≡ y → derivationIn b₁ l c y ≡ derived T sub x.to x.from
-        answer y e = sym (ap (derivationIn b₁ l c) e) ∙ g.is l
+        answer : (y : Derived) → d ≡ y → derivation_in b₁ l c y ≡ derived T sub x.to x.from
+        answer y e = sym (ap (derivation_in b₁ l c) e) ∙ g.is l
 
-        pub restrict-types-full : d ≡ Full → (q : Crossed) → q ≡ stopped ps typesFull → Crosses b₁ q
-        restrict-types-full e = stops b b₁ l c ps x.from typesFull (omega arith)
-            (other-types-full T (placesIn ps) x.from x.place x.to x.receiver (own-table b l c x.to ∙ own) (sym met) (sym less) (answer Full e)) g.keeps.long g.keeps.kept
+        pub restrict-types-full : d ≡ Full → (q : Crossed) → q ≡ stopped ps types_full → Crosses b₁ q
+        restrict-types-full e = stops b b₁ l c ps x.from types_full (omega arith)
+            (other-types-full T (places_in ps) x.from x.place x.to x.receiver (own-table b l c x.to ∙ own) (sym met) (sym less) (answer Full e)) g.keeps.long g.keeps.kept
 
-        module _ (i m : ℕ) (e : d ≡ At i m) (n : Counts) (en : n ≡ withCount c m) where
+        module _ (i m : ℕ) (e : d ≡ At i m) (n : Counts) (en : n ≡ with_count c m) where
           pub restrict-ready : Ready l n b₁
           restrict-ready = subst (λ (y : Counts). Ready l y b₁) (sym en) (ready_on l c m b b₁ h (derives-grew c x.to x.from e g) g.keeps.long)
 
@@ -175,9 +175,9 @@ module _ (b l : List ℕ) (c : Counts) (h : Ready l c b) (ps : Places) (x : Cros
             came = λ _. stands c ps x.from x.to x.place m b₁ desc place w (λ _. let u = w.more in omega (arith, low, u));
           }
 
-          pub restrict-meets : (b₂ : List ℕ) (q : Crossed) → crossedOf b₂ l n q ≡ adapt (tableIn b₁ l n) (placesIn ps) x.to i x.place → Leaves n ps x.to b₁ b₂ q → Crosses b₂ q
+          pub restrict-meets : (b₂ : List ℕ) (q : Crossed) → crossed_of b₂ l n q ≡ adapt (table_in b₁ l n) (places_in ps) x.to i x.place → Leaves n ps x.to b₁ b₂ q → Crosses b₂ q
           restrict-meets b₂ q is k = (
-            subst (λ (y : Counts). crossedOf b₂ l y q ≡ adapt (tableIn b₁ l y) (placesIn ps) x.to i x.place) en is
-                ∙ other-meets T (placesIn ps) x.from x.place x.to x.receiver (own-table b l c x.to ∙ own) (sym met) (sym less) (tableIn b₁ l (withCount c m)) i (answer (At i m) e),
+            subst (λ (y : Counts). crossed_of b₂ l y q ≡ adapt (table_in b₁ l y) (places_in ps) x.to i x.place) en is
+                ∙ other-meets T (places_in ps) x.from x.place x.to x.receiver (own-table b l c x.to ∙ own) (sym met) (sym less) (table_in b₁ l (with_count c m)) i (answer (At i m) e),
             leaves-on c ps x.from b b₁ (landed ps x.to (landing.Stands x.place) m) half refl b₂ q (subst (λ (y : Counts). Leaves y ps x.to b₁ b₂ q) en k),
           )

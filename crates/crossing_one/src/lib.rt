@@ -1,10 +1,10 @@
 // A reference crosses from one static type to another (X): it may pass as it is, be led to the base of its place, or get an adapter in front of its place.
 // The types are lent and may grow; a new adapter is stored among the places. What came of a crossing means is in specs/Crossed.antt of crossing_meet.
 ghost use Rattle.std.specs.Prelude.{◌≡◌, true, false, ◌≤◌};
-ghost use Rattle.spec_model.specs.Table.{maxTypes};
-ghost use Rattle.table_record.specs.Store.{tableIn};
-ghost use Rattle.crossing_meet.specs.Crossed.{Ready, PlaceKnown, crossedOf, Leaves};
-ghost use Rattle.crossing_one.specs.Crosses.{ownIn, crossing};
+ghost use Rattle.spec_model.specs.Table.{max_types};
+ghost use Rattle.table_record.specs.Store.{table_in};
+ghost use Rattle.crossing_meet.specs.Crossed.{Ready, PlaceKnown, crossed_of, Leaves};
+ghost use Rattle.crossing_one.specs.Crosses.{own_in, crossing};
 
 use base_numbers::refusal;
 use crossing_meet::{Crossed, Landing};
@@ -24,8 +24,8 @@ pub struct Crossing {
 
 // Whether type t of the first n is own. A number that names no type is not.
 fn is_own(types: &[u8; TYPE_BYTES], n: usize, t: usize) -> bool
-    requires { n ≤ maxTypes }
-    ensures { result ≡ ownIn n types.now t }
+    requires { n ≤ max_types }
+    ensures { result ≡ own_in n types.now t }
 {
     if n <= t {
         return false;
@@ -42,8 +42,8 @@ fn unwrap(
     ps: Places,
     x: Crossing,
 ) -> Crossed
-    requires { Ready links.now c types.old × PlaceKnown ps x.place × (ownIn c.types types.old x.to ≡ true) }
-    ensures is { crossedOf types.new links.now c result ≡ crossing (tableIn types.old links.now c) ps x }
+    requires { Ready links.now c types.old × PlaceKnown ps x.place × (own_in c.types types.old x.to ≡ true) }
+    ensures is { crossed_of types.new links.now c result ≡ crossing (table_in types.old links.now c) ps x }
     ensures leaves { Leaves c ps x.from types.old types.new result }
 {
     let free = crossing_meet::asked(types, links, c, Relation::Free, x.to, x.from);
@@ -68,8 +68,8 @@ fn restrict_to(
     ps: Places,
     x: Crossing,
 ) -> Crossed
-    requires { Ready links.now c types.old × PlaceKnown ps x.place × (ownIn c.types types.old x.to ≡ false) }
-    ensures is { crossedOf types.new links.now c result ≡ crossing (tableIn types.old links.now c) ps x }
+    requires { Ready links.now c types.old × PlaceKnown ps x.place × (own_in c.types types.old x.to ≡ false) }
+    ensures is { crossed_of types.new links.now c result ≡ crossing (table_in types.old links.now c) ps x }
     ensures leaves { Leaves c ps x.from types.old types.new result }
 {
     if crossing_meet::asked(types, links, c, Relation::Subtype, x.to, x.from) {
@@ -94,7 +94,7 @@ pub fn cross(
     x: Crossing,
 ) -> Crossed
     requires { Ready links.now c types.old × PlaceKnown ps x.place }
-    ensures is { crossedOf types.new links.now c result ≡ crossing (tableIn types.old links.now c) ps x }
+    ensures is { crossed_of types.new links.now c result ≡ crossing (table_in types.old links.now c) ps x }
     ensures leaves { Leaves c ps x.from types.old types.new result }
 {
     if is_own(types, c.types, x.to) {

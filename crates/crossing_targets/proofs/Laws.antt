@@ -14,23 +14,23 @@ use lib.ListN.{length, get_or, get_elem?, set, take, drop}
 use lib.Seq.{take-suc-set, take-suc, append_snoc, length-take-le, drop-cons, get_or-take, drop-nil}
 use borrow.Author.Tests.{eq-eqb, ne_eqb, lt-ltb, le-ltb, ltb-true, ltb-false}
 use Rattle.spec_model.specs.Basics.{Res, refuse, ok, try, need, from}
-use Rattle.spec_model.specs.Table.{Table, Rep, ref, w32, w64, Ty, type_at, methodAt, noMethod, permit, isRef}
+use Rattle.spec_model.specs.Table.{Table, Rep, ref, w32, w64, Ty, type_at, method_at, no_method, permit, is_ref}
 use Rattle.spec_model.specs.Table.{Method as Methodᵐ}
-use Rattle.spec_model.specs.Requests.{atLayer, within, passLayers}
-use Rattle.spec_model.specs.Check.{RawType, state_of, repOf, answer_of, methodOf, noRawType, noRawMethod}
+use Rattle.spec_model.specs.Requests.{at_layer, within, pass_layers}
+use Rattle.spec_model.specs.Check.{RawType, state_of, rep_of, answer_of, method_of, no_raw_type, no_raw_method}
 use Rattle.spec_model.proofs.Codes.{answer_back, code-back}
-use Rattle.spec_model.specs.Records.{answerCode, argumentSlots}
-use Rattle.spec_model.specs.Refusals.{unrelated, notStrict, tooWide, laterLayer}
-use Rattle.spec_model.specs.Crossing.{maxPlaces}
+use Rattle.spec_model.specs.Records.{answer_code, argument_slots}
+use Rattle.spec_model.specs.Refusals.{unrelated, not_strict, too_wide, later_layer}
+use Rattle.spec_model.specs.Crossing.{max_places}
 use Rattle.table_record.specs.declared.Counts.{Counts}
 use Rattle.table_record.specs.declared.Head.{Head}
 use Rattle.table_record.specs.declared.Method.{Method}
-use Rattle.table_record.specs.Store.{types_in, tableIn, rawMethod, head_of}
+use Rattle.table_record.specs.Store.{types_in, table_in, raw_method, head_of}
 use Rattle.table_record.proofs.Tables.{type-is, type-out}
 use Rattle.table_record.proofs.Codes.{rep-code, answer-is}
 use Rattle.crossing_targets.specs.declared.Slot.{Slot}
 use Rattle.crossing_targets.specs.declared.Slot.TheVariants.{Argument, Answer}
-use Rattle.crossing_targets.specs.Targets.{argumentOf, slotIn, slot_at, width_at, passAs, passTo, passedOf, maxLayers}
+use Rattle.crossing_targets.specs.Targets.{argument_of, slot_in, slot_at, width_at, pass_as, pass_to, passed_of, max_layers}
 use Rattle.law_table.proofs.Methods.{ref-is, method-is, method-out}
 
 -- ---- Lists.
@@ -47,7 +47,7 @@ read : (list : List ℕ) (i : ℕ) → i < length list → take (i + 1) list ≡
 read list i h = ap (λ (n : ℕ). take n list) (add-one i) ∙ take-suc list i 0 h
 
 -- the layers so far: the cell's type, and the first i of its place
-pub call-layers-next : (list layers : List ℕ) (ty i v : ℕ) → length list ≡ maxLayers → i < maxPlaces → length layers ≡ maxPlaces → v ≡ get_or layers i 0 →
+pub call-layers-next : (list layers : List ℕ) (ty i v : ℕ) → length list ≡ max_layers → i < max_places → length layers ≡ max_places → v ≡ get_or layers i 0 →
     take (i + 1) list ≡ ty ∷ take i layers → take (i + 1 + 1) (set list (i + 1) v) ≡ ty ∷ take (i + 1) layers
 call-layers-next list layers ty i v e h k z w =
     stored list (i + 1) v (omega arith) ∙ ap (λ (xs : List ℕ). xs ++ (v ∷ [])) w ∙ ap (λ (y : ℕ). ty ∷ (take i layers ++ (y ∷ []))) z
@@ -59,7 +59,7 @@ call-layers-end list layers ty n i h g w = let e : i ≡ n = omega arith in subs
 -- ---- Codes.
 
 -- targets so far: what f gives for the first i layers
-pub targets_next : (f : ℕ → Option ℕ) (list ls : List ℕ) (i v : ℕ) → length list ≡ maxLayers → length ls ≡ maxLayers → i < maxLayers → v ≡ answerCode (f (get_or ls i 0)) →
+pub targets_next : (f : ℕ → Option ℕ) (list ls : List ℕ) (i v : ℕ) → length list ≡ max_layers → length ls ≡ max_layers → i < max_layers → v ≡ answer_code (f (get_or ls i 0)) →
     map answer_of (take i list) ≡ map f (take i ls) → map answer_of (take (i + 1) (set list i v)) ≡ map f (take (i + 1) ls)
 targets_next f list ls i v e k h z w =
     ap (map answer_of) (stored list i v (omega arith)) ∙ map-append answer_of (take i list) (v ∷ [])
@@ -75,7 +75,7 @@ targets-end f list ls n i h g w = let e : i ≡ n = omega arith in subst (λ (j 
 pub back-starts : (xs : List ℕ) (n k : ℕ) → 0 + k ≡ n → reverse (take k xs) ≡ reverse (take n xs)
 back-starts xs n k e = let z : k ≡ n = omega arith in ap (λ (j : ℕ). reverse (take j xs)) z
 
-pub back-next : (list xs : List ℕ) (n i v : ℕ) → length list ≡ maxLayers → length xs ≡ maxLayers → n ≤ maxLayers → i < n → v ≡ get_or xs (n - i - 1) 0 →
+pub back-next : (list xs : List ℕ) (n i v : ℕ) → length list ≡ max_layers → length xs ≡ max_layers → n ≤ max_layers → i < n → v ≡ get_or xs (n - i - 1) 0 →
     ((k : ℕ) → i + k ≡ n → take i list ++ reverse (take k xs) ≡ reverse (take n xs)) →
     (k : ℕ) → i + 1 + k ≡ n → take (i + 1) (set list i v) ++ reverse (take k xs) ≡ reverse (take n xs)
 back-next list xs n i v e f m h z w k q =
@@ -111,91 +111,91 @@ elem_in (suc n) (x ∷ xs) zero h k = refl
 elem_in (suc n) (x ∷ xs) (suc i) h k = elem_in n xs i (le_of_suc-le-suc h) (le_of_suc-le-suc k)
 
 module _ (x : Method) (i n : ℕ) (e : n ≡ x.count) where
-  pub argument-uncounted : n ≤ i → 0 ≡ answerCode (argumentOf x i)
-  argument-uncounted h = ap answerCode (sym (elem-count x.count x.args i (omega arith)))
+  pub argument-uncounted : n ≤ i → 0 ≡ answer_code (argument_of x i)
+  argument-uncounted h = ap answer_code (sym (elem-count x.count x.args i (omega arith)))
 
-  module _ (four : length x.args ≡ argumentSlots) where
-    pub argument-out : argumentSlots ≤ i → 0 ≡ answerCode (argumentOf x i)
-    argument-out h = ap answerCode (sym (elem_past x.count x.args i (omega arith)))
+  module _ (four : length x.args ≡ argument_slots) where
+    pub argument-out : argument_slots ≤ i → 0 ≡ answer_code (argument_of x i)
+    argument-out h = ap answer_code (sym (elem_past x.count x.args i (omega arith)))
 
-    pub argument_is : i < n → i < argumentSlots → (v j : ℕ) → j ≡ i → v ≡ get_or x.args j 0 → v + 1 ≡ answerCode (argumentOf x i)
+    pub argument_is : i < n → i < argument_slots → (v j : ℕ) → j ≡ i → v ≡ get_or x.args j 0 → v + 1 ≡ answer_code (argument_of x i)
     argument_is h k v j s z =
-        add-one v ∙ ap suc (z ∙ ap (λ (m : ℕ). get_or x.args m 0) s) ∙ ap answerCode (sym (elem_in x.count x.args i (omega arith) (omega arith)))
+        add-one v ∙ ap suc (z ∙ ap (λ (m : ℕ). get_or x.args m 0) s) ∙ ap answer_code (sym (elem_in x.count x.args i (omega arith) (omega arith)))
 
 -- ---- Slots of a method.
 module _ (x : Method) where
-  pub slot-off : (s : Slot) → false ≡ permit (state_of x.state) → 0 ≡ answerCode (slotIn (methodOf (rawMethod x)) s)
+  pub slot-off : (s : Slot) → false ≡ permit (state_of x.state) → 0 ≡ answer_code (slot_in (method_of (raw_method x)) s)
   slot-off (Argument i) e = rw (← e)
   slot-off Answer e = rw (← e)
 
   module _ (e : true ≡ permit (state_of x.state)) where
-    pub slot-argument : (i : ℕ) (s : Slot) → s ≡ Argument i → (v : ℕ) → v ≡ answerCode (argumentOf x i) → v ≡ answerCode (slotIn (methodOf (rawMethod x)) s)
-    slot-argument i s z v w = w ∙ sym (ap (λ (y : Slot). answerCode (slotIn (methodOf (rawMethod x)) y)) z ∙ rw (← e))
+    pub slot-argument : (i : ℕ) (s : Slot) → s ≡ Argument i → (v : ℕ) → v ≡ answer_code (argument_of x i) → v ≡ answer_code (slot_in (method_of (raw_method x)) s)
+    slot-argument i s z v w = w ∙ sym (ap (λ (y : Slot). answer_code (slot_in (method_of (raw_method x)) y)) z ∙ rw (← e))
 
-    pub slot-answer : (s : Slot) → s ≡ Answer → (v : ℕ) → v ≡ x.answer → v ≡ answerCode (slotIn (methodOf (rawMethod x)) s)
-    slot-answer s z v w = w ∙ sym (code-back x.answer) ∙ sym (ap (λ (y : Slot). answerCode (slotIn (methodOf (rawMethod x)) y)) z ∙ rw (← e))
+    pub slot-answer : (s : Slot) → s ≡ Answer → (v : ℕ) → v ≡ x.answer → v ≡ answer_code (slot_in (method_of (raw_method x)) s)
+    slot-answer s z v w = w ∙ sym (code-back x.answer) ∙ sym (ap (λ (y : Slot). answer_code (slot_in (method_of (raw_method x)) y)) z ∙ rw (← e))
 
 -- ---- Slots of a type's method.
 module _ (t : Table) (m : ℕ) (s : Slot) (l : ℕ) where
-  slot-of : slot_at t m s l ≡ slotIn (methodAt t l m) s
+  slot-of : slot_at t m s l ≡ slot_in (method_at t l m) s
   slot-of = go s where
-    go : (s : Slot) → slot_at t m s l ≡ slotIn (methodAt t l m) s
+    go : (s : Slot) → slot_at t m s l ≡ slot_in (method_at t l m) s
     go (Argument i) = refl
     go Answer = refl
 
-  slot-none : methodAt t l m ≡ noMethod → 0 ≡ answerCode (slot_at t m s l)
-  slot-none e = sym (ap answerCode (slot-of ∙ ap (λ (x : Methodᵐ). slotIn x s) e) ∙ go s) where
-    go : (s : Slot) → answerCode (slotIn noMethod s) ≡ 0
+  slot-none : method_at t l m ≡ no_method → 0 ≡ answer_code (slot_at t m s l)
+  slot-none e = sym (ap answer_code (slot-of ∙ ap (λ (x : Methodᵐ). slot_in x s) e) ∙ go s) where
+    go : (s : Slot) → answer_code (slot_in no_method s) ≡ 0
     go (Argument i) = refl
     go Answer = refl
 
 module _ (b l : List ℕ) (c : Counts) (m : ℕ) (s : Slot) (t : ℕ) where
-  pub target-unknown : c.types ≤ t → 0 ≡ answerCode (slot_at (tableIn b l c) m s t)
-  target-unknown h = slot-none (tableIn b l c) m s t (ap (λ (y : Ty). get_or y.methods m noMethod) (type-out b l c t h))
+  pub target-unknown : c.types ≤ t → 0 ≡ answer_code (slot_at (table_in b l c) m s t)
+  target-unknown h = slot-none (table_in b l c) m s t (ap (λ (y : Ty). get_or y.methods m no_method) (type-out b l c t h))
 
-  pub target-unmet : c.methods ≤ m → 0 ≡ answerCode (slot_at (tableIn b l c) m s t)
-  target-unmet h = slot-none (tableIn b l c) m s t (method-out b l c t m h)
+  pub target-unmet : c.methods ≤ m → 0 ≡ answer_code (slot_at (table_in b l c) m s t)
+  target-unmet h = slot-none (table_in b l c) m s t (method-out b l c t m h)
 
-  module _ (low : t < c.types) (h : Head) (e : h ≡ head_of (get_or (types_in b) t noRawType)) where
-    pub target-number : (h.rep ≡ 0 → ⊥) → 0 ≡ answerCode (slot_at (tableIn b l c) m s t)
+  module _ (low : t < c.types) (h : Head) (e : h ≡ head_of (get_or (types_in b) t no_raw_type)) where
+    pub target-number : (h.rep ≡ 0 → ⊥) → 0 ≡ answer_code (slot_at (table_in b l c) m s t)
     target-number z =
-        let x : RawType = get_or (types_in b) t noRawType in
-        let f : ℕ → Methodᵐ = λ k. methodOf (get_or x.methods k noRawMethod) in
-        let q : isRef (repOf x.rep) ≡ false = sym (rep-code x.rep) ∙ ne_eqb x.rep 0 (λ y. z (ap (λ (k : Head). k.rep) e ∙ y)) in
-        slot-none (tableIn b l c) m s t
-        (ap (λ (y : Ty). get_or y.methods m noMethod) (type-is b l c t low) ∙ ap (λ (y : Bool). get_or (cond y (from c.methods 0 f) []) m noMethod) q)
+        let x : RawType = get_or (types_in b) t no_raw_type in
+        let f : ℕ → Methodᵐ = λ k. method_of (get_or x.methods k no_raw_method) in
+        let q : is_ref (rep_of x.rep) ≡ false = sym (rep-code x.rep) ∙ ne_eqb x.rep 0 (λ y. z (ap (λ (k : Head). k.rep) e ∙ y)) in
+        slot-none (table_in b l c) m s t
+        (ap (λ (y : Ty). get_or y.methods m no_method) (type-is b l c t low) ∙ ap (λ (y : Bool). get_or (cond y (from c.methods 0 f) []) m no_method) q)
 
-    pub target_is : h.rep ≡ 0 → m < c.methods → (x : Method) → rawMethod x ≡ get_or (get_or (types_in b) t noRawType).methods m noRawMethod →
-        (v : ℕ) → v ≡ answerCode (slotIn (methodOf (rawMethod x)) s) → v ≡ answerCode (slot_at (tableIn b l c) m s t)
+    pub target_is : h.rep ≡ 0 → m < c.methods → (x : Method) → raw_method x ≡ get_or (get_or (types_in b) t no_raw_type).methods m no_raw_method →
+        (v : ℕ) → v ≡ answer_code (slot_in (method_of (raw_method x)) s) → v ≡ answer_code (slot_at (table_in b l c) m s t)
     target_is z k x w v q =
-        q ∙ ap (λ (y : Methodᵐ). answerCode (slotIn y s)) (ap methodOf w ∙ sym (method-is b l c t m (sym (ref-is b l c t h low e) ∙ eq-eqb h.rep 0 z) k)) ∙ ap answerCode
-        (sym (slot-of (tableIn b l c) m s t))
+        q ∙ ap (λ (y : Methodᵐ). answer_code (slot_in y s)) (ap method_of w ∙ sym (method-is b l c t m (sym (ref-is b l c t h low e) ∙ eq-eqb h.rep 0 z) k)) ∙ ap answer_code
+        (sym (slot-of (table_in b l c) m s t))
 
 -- ---- Refusals at a layer.
 module _ (i e : ℕ) where
-  pub at_first : i ≡ 0 → e ≡ atLayer (eqb i 0) e
-  at_first h = ap (λ (q : Bool). atLayer q e) (sym (eq-eqb i 0 h))
+  pub at_first : i ≡ 0 → e ≡ at_layer (eqb i 0) e
+  at_first h = ap (λ (q : Bool). at_layer q e) (sym (eq-eqb i 0 h))
 
   module _ (h : i ≡ 0 → ⊥) where
-    later : atLayer (eqb i 0) e ≡ cond (eqb e unrelated || eqb e notStrict) laterLayer e
-    later = ap (λ (q : Bool). atLayer q e) (ne_eqb i 0 h)
+    later : at_layer (eqb i 0) e ≡ cond (eqb e unrelated || eqb e not_strict) later_layer e
+    later = ap (λ (q : Bool). at_layer q e) (ne_eqb i 0 h)
 
-    pub at-later-unrelated : e ≡ unrelated → laterLayer ≡ atLayer (eqb i 0) e
-    at-later-unrelated z = sym (later ∙ ap (λ (n : ℕ). cond (eqb n unrelated || eqb n notStrict) laterLayer n) z)
+    pub at-later-unrelated : e ≡ unrelated → later_layer ≡ at_layer (eqb i 0) e
+    at-later-unrelated z = sym (later ∙ ap (λ (n : ℕ). cond (eqb n unrelated || eqb n not_strict) later_layer n) z)
 
-    pub at-later-not-strict : e ≡ notStrict → laterLayer ≡ atLayer (eqb i 0) e
-    at-later-not-strict z = sym (later ∙ ap (λ (n : ℕ). cond (eqb n unrelated || eqb n notStrict) laterLayer n) z)
+    pub at-later-not-strict : e ≡ not_strict → later_layer ≡ at_layer (eqb i 0) e
+    at-later-not-strict z = sym (later ∙ ap (λ (n : ℕ). cond (eqb n unrelated || eqb n not_strict) later_layer n) z)
 
-    pub at-later : (e ≡ unrelated → ⊥) → (e ≡ notStrict → ⊥) → e ≡ atLayer (eqb i 0) e
-    at-later y z = sym (later ∙ rw (ne_eqb e unrelated y, ne_eqb e notStrict z))
+    pub at-later : (e ≡ unrelated → ⊥) → (e ≡ not_strict → ⊥) → e ≡ at_layer (eqb i 0) e
+    at-later y z = sym (later ∙ rw (ne_eqb e unrelated y, ne_eqb e not_strict z))
 
-abbrev passedAs : ℕ → Bool → Res (Unit {0})
-passedAs e q = elim q [ false ↦ refuse e | true ↦ ok tt ]
+abbrev passed_as : ℕ → Bool → Res (Unit {0})
+passed_as e q = elim q [ false ↦ refuse e | true ↦ ok tt ]
 
-passed-no : (e : ℕ) → eqb e 0 ≡ false → passedOf e ≡ refuse e
-passed-no e z = ap (λ (q : Bool). passedAs e q) z
+passed-no : (e : ℕ) → eqb e 0 ≡ false → passed_of e ≡ refuse e
+passed-no e z = ap (λ (q : Bool). passed_as e q) z
 
-refused-unrelated : (q : Bool) → eqb (atLayer q unrelated) 0 ≡ false
+refused-unrelated : (q : Bool) → eqb (at_layer q unrelated) 0 ≡ false
 refused-unrelated true = refl
 refused-unrelated false = refl
 
@@ -215,13 +215,13 @@ pub inside-width : (v : ℤ) (h : ℕ) → lt_z v (negsuc h) ≡ false → lt_z 
 inside-width (pos a) h e f = let z : a ≤ h = ltb-false h a f in sym (lt-ltb a (suc h) (omega arith))
 inside-width (negsuc a) h e f = let z : a ≤ h = ltb-false h a e in sym (lt-ltb a (suc h) (omega arith))
 
-pub fits-32 : (v : ℤ) → true ≡ within 2147483648 v → passedOf 0 ≡ width_at v
+pub fits-32 : (v : ℤ) → true ≡ within 2147483648 v → passed_of 0 ≡ width_at v
 fits-32 v e = rw (← e)
 
-pub exceeds-32 : (v : ℤ) → false ≡ within 2147483648 v → passedOf tooWide ≡ width_at v
+pub exceeds-32 : (v : ℤ) → false ≡ within 2147483648 v → passed_of too_wide ≡ width_at v
 exceeds-32 v e = rw (← e)
 
-rep-wide : (n : ℕ) → (n ≡ 0 → ⊥) → (n ≡ 1 → ⊥) → repOf n ≡ w64
+rep-wide : (n : ℕ) → (n ≡ 0 → ⊥) → (n ≡ 1 → ⊥) → rep_of n ≡ w64
 rep-wide zero h k = absurd (h refl)
 rep-wide (suc zero) h k = absurd (k refl)
 rep-wide (suc (suc n)) h k = refl
@@ -229,38 +229,38 @@ rep-wide (suc (suc n)) h k = refl
 -- one layer of a number
 module _ (b l : List ℕ) (c : Counts) (v : ℤ) (target i e : ℕ) where
   abbrev Passes : Type 0
-  Passes = passedOf e ≡ passTo (eqb i 0) (tableIn b l c) v (answer_of target)
+  Passes = passed_of e ≡ pass_to (eqb i 0) (table_in b l c) v (answer_of target)
 
-  refused-there : e ≡ atLayer (eqb i 0) unrelated → passedOf e ≡ refuse (atLayer (eqb i 0) unrelated)
-  refused-there z = ap passedOf z ∙ passed-no (atLayer (eqb i 0) unrelated) (refused-unrelated (eqb i 0))
+  refused-there : e ≡ at_layer (eqb i 0) unrelated → passed_of e ≡ refuse (at_layer (eqb i 0) unrelated)
+  refused-there z = ap passed_of z ∙ passed-no (at_layer (eqb i 0) unrelated) (refused-unrelated (eqb i 0))
 
-  pub pass-none : target ≡ 0 → e ≡ atLayer (eqb i 0) unrelated → Passes
-  pass-none z w = refused-there w ∙ sym (ap (λ (n : ℕ). passTo (eqb i 0) (tableIn b l c) v (answer_of n)) z)
+  pub pass-none : target ≡ 0 → e ≡ at_layer (eqb i 0) unrelated → Passes
+  pass-none z w = refused-there w ∙ sym (ap (λ (n : ℕ). pass_to (eqb i 0) (table_in b l c) v (answer_of n)) z)
 
   module _ (some-target : target ≡ 0 → ⊥) (t : ℕ) (is : t ≡ target - 1) where
-    pass-as : (r : Rep) → (type_at (tableIn b l c) t).rep ≡ r → passTo (eqb i 0) (tableIn b l c) v (answer_of target) ≡ passAs (eqb i 0) v r
+    pass-as : (r : Rep) → (type_at (table_in b l c) t).rep ≡ r → pass_to (eqb i 0) (table_in b l c) v (answer_of target) ≡ pass_as (eqb i 0) v r
     pass-as r w =
-        ap (passTo (eqb i 0) (tableIn b l c) v) (answer-is target some-target ∙ ap (λ (k : ℕ). some k) (sym is)) ∙ ap (passAs (eqb i 0) v) w
+        ap (pass_to (eqb i 0) (table_in b l c) v) (answer-is target some-target ∙ ap (λ (k : ℕ). some k) (sym is)) ∙ ap (pass_as (eqb i 0) v) w
 
-    pub pass-unknown : c.types ≤ t → passedOf e ≡ width_at v → Passes
+    pub pass-unknown : c.types ≤ t → passed_of e ≡ width_at v → Passes
     pass-unknown h w = w ∙ sym (pass-as w32 (ap (λ (x : Ty). x.rep) (type-out b l c t h)))
 
-    module _ (low : t < c.types) (h : Head) (z : h ≡ head_of (get_or (types_in b) t noRawType)) where
-      rep-of : (r : Rep) → repOf h.rep ≡ r → (type_at (tableIn b l c) t).rep ≡ r
-      rep-of r w = ap (λ (x : Ty). x.rep) (type-is b l c t low) ∙ ap (λ (x : Head). repOf x.rep) (sym z) ∙ w
+    module _ (low : t < c.types) (h : Head) (z : h ≡ head_of (get_or (types_in b) t no_raw_type)) where
+      rep-of : (r : Rep) → rep_of h.rep ≡ r → (type_at (table_in b l c) t).rep ≡ r
+      rep-of r w = ap (λ (x : Ty). x.rep) (type-is b l c t low) ∙ ap (λ (x : Head). rep_of x.rep) (sym z) ∙ w
 
-      pub pass-ref : h.rep ≡ 0 → e ≡ atLayer (eqb i 0) unrelated → Passes
-      pass-ref y w = refused-there w ∙ sym (pass-as ref (rep-of ref (ap repOf y)))
+      pub pass-ref : h.rep ≡ 0 → e ≡ at_layer (eqb i 0) unrelated → Passes
+      pass-ref y w = refused-there w ∙ sym (pass-as ref (rep-of ref (ap rep_of y)))
 
-      pub pass-32 : h.rep ≡ 1 → passedOf e ≡ width_at v → Passes
-      pass-32 y w = w ∙ sym (pass-as w32 (rep-of w32 (ap repOf y)))
+      pub pass-32 : h.rep ≡ 1 → passed_of e ≡ width_at v → Passes
+      pass-32 y w = w ∙ sym (pass-as w32 (rep-of w32 (ap rep_of y)))
 
       pub pass-64 : (h.rep ≡ 0 → ⊥) → (h.rep ≡ 1 → ⊥) → e ≡ 0 → Passes
-      pass-64 x y w = ap passedOf w ∙ sym (pass-as w64 (rep-of w64 (rep-wide h.rep x y)))
+      pass-64 x y w = ap passed_of w ∙ sym (pass-as w64 (rep-of w64 (rep-wide h.rep x y)))
 
 -- ---- The rest of the layers.
 -- the first n targets: what is left from i on
-module _ (list : List ℕ) (n : ℕ) (long : length list ≡ maxLayers) (few : n ≤ maxLayers) where
+module _ (list : List ℕ) (n : ℕ) (long : length list ≡ max_layers) (few : n ≤ max_layers) where
   counted : length (take n list) ≡ n
   counted = length-take-le n list (omega arith)
 
@@ -275,51 +275,51 @@ nothing_left [] (suc n) i h = drop-nil i
 nothing_left (x ∷ xs) (suc n) zero h = absurd (not-suc-le-zero h)
 nothing_left (x ∷ xs) (suc n) (suc i) h = nothing_left xs n i (le_of_suc-le-suc h)
 
--- what `passLayers` does at a type of the representation, with what comes after
+-- what `pass_layers` does at a type of the representation, with what comes after
 abbrev onward : Bool → ℤ → Res (Unit {0}) → Rep → Res (Unit {0})
-onward first v k r = elim r [ ref ↦ refuse (atLayer first unrelated) | w32 ↦ need (within 2147483648 v) tooWide (λ _. k) | w64 ↦ k ]
+onward first v k r = elim r [ ref ↦ refuse (at_layer first unrelated) | w32 ↦ need (within 2147483648 v) too_wide (λ _. k) | w64 ↦ k ]
 
 abbrev tested : Bool → Res (Unit {0})
-tested q = need q tooWide λ _. ok tt
+tested q = need q too_wide λ _. ok tt
 
-onward-is : (first : Bool) (v : ℤ) (k : Res (Unit {0})) (r : Rep) → onward first v k r ≡ try (passAs first v r) (λ _. k)
+onward-is : (first : Bool) (v : ℤ) (k : Res (Unit {0})) (r : Rep) → onward first v k r ≡ try (pass_as first v r) (λ _. k)
 onward-is first v k ref = refl
 onward-is first v k w32 = go (within 2147483648 v) where
-  go : (q : Bool) → need q tooWide (λ _. k) ≡ try (tested q) (λ _. k)
+  go : (q : Bool) → need q too_wide (λ _. k) ≡ try (tested q) (λ _. k)
   go true = refl
   go false = refl
 onward-is first v k w64 = refl
 
-pass_step : (first : Bool) (t : Table) (v : ℤ) (o : Option ℕ) (os : List (Option ℕ)) → passLayers first t v (o ∷ os) ≡ try (passTo first t v o) (λ _. passLayers false t v os)
-unfolding passLayers
+pass_step : (first : Bool) (t : Table) (v : ℤ) (o : Option ℕ) (os : List (Option ℕ)) → pass_layers first t v (o ∷ os) ≡ try (pass_to first t v o) (λ _. pass_layers false t v os)
+unfolding pass_layers
 pass_step first t v none os = refl
-pass_step first t v (some a) os = onward-is first v (passLayers false t v os) (type_at t a).rep
+pass_step first t v (some a) os = onward-is first v (pass_layers false t v os) (type_at t a).rep
 
 -- all n targets are met as those from i on
 abbrev pub PassRest : Table → ℤ → List ℕ → ℕ → ℕ → Type 0
-PassRest t v list n i = passLayers (eqb i 0) t v (map answer_of (drop i (take n list))) ≡ passLayers true t v (map answer_of (take n list))
+PassRest t v list n i = pass_layers (eqb i 0) t v (map answer_of (drop i (take n list))) ≡ pass_layers true t v (map answer_of (take n list))
 
 pub pass-starts : (t : Table) (v : ℤ) (list : List ℕ) (n : ℕ) → PassRest t v list n 0
 pass-starts t v list n = refl
 
-module _ (t : Table) (v : ℤ) (list : List ℕ) (n : ℕ) (long : length list ≡ maxLayers) (few : n ≤ maxLayers) (i : ℕ) (h : i < n) (w : PassRest t v list n i)
-    (target : ℕ) (is : target ≡ get_or list i 0) (e : ℕ) (k : passedOf e ≡ passTo (eqb i 0) t v (answer_of target)) where
-  pass_on : passLayers true t v (map answer_of (take n list)) ≡ try (passedOf e) (λ _. passLayers false t v (map answer_of (drop (i + 1) (take n list))))
+module _ (t : Table) (v : ℤ) (list : List ℕ) (n : ℕ) (long : length list ≡ max_layers) (few : n ≤ max_layers) (i : ℕ) (h : i < n) (w : PassRest t v list n i)
+    (target : ℕ) (is : target ≡ get_or list i 0) (e : ℕ) (k : passed_of e ≡ pass_to (eqb i 0) t v (answer_of target)) where
+  pass_on : pass_layers true t v (map answer_of (take n list)) ≡ try (passed_of e) (λ _. pass_layers false t v (map answer_of (drop (i + 1) (take n list))))
   pass_on =
-      sym w ∙ ap (λ (xs : List ℕ). passLayers (eqb i 0) t v (map answer_of xs)) (rest-next list n long few i h)
+      sym w ∙ ap (λ (xs : List ℕ). pass_layers (eqb i 0) t v (map answer_of xs)) (rest-next list n long few i h)
       ∙ pass_step (eqb i 0) t v (answer_of (get_or list i 0)) (map answer_of (drop (i + 1) (take n list)))
-      ∙ ap (λ (x : Res (Unit {0})). try x (λ _. passLayers false t v (map answer_of (drop (i + 1) (take n list)))))
-      (sym (k ∙ ap (λ (m : ℕ). passTo (eqb i 0) t v (answer_of m)) is))
+      ∙ ap (λ (x : Res (Unit {0})). try x (λ _. pass_layers false t v (map answer_of (drop (i + 1) (take n list)))))
+      (sym (k ∙ ap (λ (m : ℕ). pass_to (eqb i 0) t v (answer_of m)) is))
 
-  pub pass-stops : (e ≡ 0 → ⊥) → passedOf e ≡ passLayers true t v (map answer_of (take n list))
+  pub pass-stops : (e ≡ 0 → ⊥) → passed_of e ≡ pass_layers true t v (map answer_of (take n list))
   pass-stops z =
       let q = passed-no e (ne_eqb e 0 z) in
-      q ∙ sym (pass_on ∙ ap (λ (x : Res (Unit {0})). try x (λ _. passLayers false t v (map answer_of (drop (i + 1) (take n list))))) q)
+      q ∙ sym (pass_on ∙ ap (λ (x : Res (Unit {0})). try x (λ _. pass_layers false t v (map answer_of (drop (i + 1) (take n list))))) q)
 
   pub pass-next : e ≡ 0 → PassRest t v list n (i + 1)
-  pass-next z = sym (pass_on ∙ ap (λ (x : Res (Unit {0})). try x (λ _. passLayers false t v (map answer_of (drop (i + 1) (take n list))))) (ap passedOf z)
-      ∙ ap (λ (q : Bool). passLayers q t v (map answer_of (drop (i + 1) (take n list)))) (sym (ne_eqb (i + 1) 0 (λ y. omega (arith, y)))))
+  pass-next z = sym (pass_on ∙ ap (λ (x : Res (Unit {0})). try x (λ _. pass_layers false t v (map answer_of (drop (i + 1) (take n list))))) (ap passed_of z)
+      ∙ ap (λ (q : Bool). pass_layers q t v (map answer_of (drop (i + 1) (take n list)))) (sym (ne_eqb (i + 1) 0 (λ y. omega (arith, y)))))
 
-pub pass-ends : (t : Table) (v : ℤ) (list : List ℕ) (n i : ℕ) → n ≤ i → PassRest t v list n i → passedOf 0 ≡ passLayers true t v (map answer_of (take n list))
-unfolding passLayers
-pass-ends t v list n i h w = sym (sym w ∙ ap (λ (xs : List ℕ). passLayers (eqb i 0) t v (map answer_of xs)) (nothing_left list n i h))
+pub pass-ends : (t : Table) (v : ℤ) (list : List ℕ) (n i : ℕ) → n ≤ i → PassRest t v list n i → passed_of 0 ≡ pass_layers true t v (map answer_of (take n list))
+unfolding pass_layers
+pass-ends t v list n i h w = sym (sym w ∙ ap (λ (xs : List ℕ). pass_layers (eqb i 0) t v (map answer_of xs)) (nothing_left list n i h))

@@ -1,14 +1,14 @@
 // The layers of a call, what each has for a value (its target), and a number on its way over them (C9, C14 to C16, A7, A9). Arguments and answers are met by the
 // same functions. What is stored means the model's lists (specs/Targets.antt).
 ghost use Rattle.std.specs.Prelude.{◌≡◌, List, ◌∷◌, map, reverse, true, ℕ, suc, ◌≤◌, eqb, pos, negsuc};
-ghost use Rattle.spec_model.specs.Requests.{atLayer, within, passLayers};
-ghost use Rattle.spec_model.specs.Check.{methodOf, answer_of};
-ghost use Rattle.spec_model.specs.Records.{answerCode};
-ghost use Rattle.spec_model.specs.Crossing.{maxPlaces};
-ghost use Rattle.table_record.specs.Store.{rawMethod, tableIn};
+ghost use Rattle.spec_model.specs.Requests.{at_layer, within, pass_layers};
+ghost use Rattle.spec_model.specs.Check.{method_of, answer_of};
+ghost use Rattle.spec_model.specs.Records.{answer_code};
+ghost use Rattle.spec_model.specs.Crossing.{max_places};
+ghost use Rattle.table_record.specs.Store.{raw_method, table_in};
 ghost use Rattle.table_record.specs.Limits.{Limits};
-ghost use Rattle.state_places.specs.Behind.{layersIn};
-ghost use Rattle.crossing_targets.specs.Targets.{callLayersIn, targetsIn, argumentOf, slotIn, slot_at, width_at, passTo, passedOf, maxLayers};
+ghost use Rattle.state_places.specs.Behind.{layers_in};
+ghost use Rattle.crossing_targets.specs.Targets.{call_layers_in, targets_in, argument_of, slot_in, slot_at, width_at, pass_to, passed_of, max_layers};
 
 use base_numbers::{least, refusal, wide};
 use state_places::Layers;
@@ -43,8 +43,8 @@ pub struct Targets {
 }
 
 pub fn call_layers(ty: u8, l: Layers) -> CallLayers
-    requires { l.count ≤ maxPlaces }
-    ensures { (callLayersIn result ≡ ty ∷ layersIn l) × (result.count ≡ suc l.count) }
+    requires { l.count ≤ max_places }
+    ensures { (call_layers_in result ≡ ty ∷ layers_in l) × (result.count ≡ suc l.count) }
 {
     let n = l.count;
     let mut list = [ty; CallLayers::MAX];
@@ -61,7 +61,7 @@ const LAST_SLOT: usize = Method::SLOTS - 1;
 
 // Argument i of a signature. A count above the four that a record has room for uses all of them.
 pub fn argument_in(x: Method, i: usize) -> usize
-    ensures { result ≡ answerCode (argumentOf x i) }
+    ensures { result ≡ answer_code (argument_of x i) }
 {
     let n = wide(x.count);
     let a = x.argument(least(i, LAST_SLOT));
@@ -76,7 +76,7 @@ pub fn argument_in(x: Method, i: usize) -> usize
 
 // What a method has in a slot: nothing where it does not permit (C15, A4).
 fn slot_in(x: Method, s: Slot) -> usize
-    ensures { result ≡ answerCode (slotIn (methodOf (rawMethod x)) s) }
+    ensures { result ≡ answer_code (slot_in (method_of (raw_method x)) s) }
 {
     let p = table_record::permits(x.state);
     if !p {
@@ -91,7 +91,7 @@ fn slot_in(x: Method, s: Slot) -> usize
 // What method m of type t has in a slot. A number type has no methods.
 pub fn target_at(types: &[u8; TYPE_BYTES], c: Counts, m: usize, s: Slot, t: usize) -> usize
     requires { Limits c }
-    ensures { (l : List ℕ) → result ≡ answerCode (slot_at (tableIn types.now l c) m s t) }
+    ensures { (l : List ℕ) → result ≡ answer_code (slot_at (table_in types.now l c) m s t) }
 {
     if c.types <= t {
         return 0;
@@ -108,8 +108,8 @@ pub fn target_at(types: &[u8; TYPE_BYTES], c: Counts, m: usize, s: Slot, t: usiz
 
 // The targets of a value over the layers of a call, by the types as they are before it starts.
 pub fn targets_of(types: &[u8; TYPE_BYTES], c: Counts, m: usize, s: Slot, w: CallLayers) -> Targets
-    requires { Limits c × (w.count ≤ maxLayers) }
-    ensures { ((l : List ℕ) → targetsIn result ≡ map (slot_at (tableIn types.now l c) m s) (callLayersIn w)) × (result.count ≡ w.count) }
+    requires { Limits c × (w.count ≤ max_layers) }
+    ensures { ((l : List ℕ) → targets_in result ≡ map (slot_at (table_in types.now l c) m s) (call_layers_in w)) × (result.count ≡ w.count) }
 {
     let n = w.count;
     let mut list = [0usize; CallLayers::MAX];
@@ -123,8 +123,8 @@ pub fn targets_of(types: &[u8; TYPE_BYTES], c: Counts, m: usize, s: Slot, w: Cal
 
 // An answer goes outward, from the class's layer to the cell's (A7).
 pub fn reversed(x: Targets) -> Targets
-    requires { x.count ≤ maxLayers }
-    ensures { (targetsIn result ≡ reverse (targetsIn x)) × (result.count ≡ x.count) }
+    requires { x.count ≤ max_layers }
+    ensures { (targets_in result ≡ reverse (targets_in x)) × (result.count ≡ x.count) }
 {
     let n = x.count;
     let mut list = [0usize; CallLayers::MAX];
@@ -138,7 +138,7 @@ pub fn reversed(x: Targets) -> Targets
 
 // The number of a refusal at layer i: at a later one than the first, 8 and 10 are 19 (C13).
 pub fn at_layer(i: usize, e: usize) -> usize
-    ensures { result ≡ atLayer (eqb i 0) e }
+    ensures { result ≡ at_layer (eqb i 0) e }
 {
     if i == 0 {
         return e;
@@ -167,7 +167,7 @@ fn in_width(v: i64, low: i64, high: i64) -> bool
 
 // C14: 16 for a number that is not one of 32 bits, else 0.
 fn fits32(v: i64) -> usize
-    ensures { passedOf result ≡ width_at v }
+    ensures { passed_of result ≡ width_at v }
 {
     if in_width(v, -2147483648, 2147483647) {
         return 0;
@@ -178,7 +178,7 @@ fn fits32(v: i64) -> usize
 // A number at layer i, whose target is coded: its refusal, or 0 (C14, C15). A number that names no type is met as w32, as in the model.
 fn pass_one(types: &[u8; TYPE_BYTES], c: Counts, v: i64, target: usize, i: usize) -> usize
     requires { Limits c }
-    ensures { (l : List ℕ) → passedOf result ≡ passTo (eqb i 0) (tableIn types.now l c) v (answer_of target) }
+    ensures { (l : List ℕ) → passed_of result ≡ pass_to (eqb i 0) (table_in types.now l c) v (answer_of target) }
 {
     if target == 0 {
         return at_layer(i, refusal::UNRELATED);
@@ -199,8 +199,8 @@ fn pass_one(types: &[u8; TYPE_BYTES], c: Counts, v: i64, target: usize, i: usize
 
 // A number passes each target in turn: its refusal, or 0.
 pub fn pass(types: &[u8; TYPE_BYTES], c: Counts, v: i64, targets: Targets) -> usize
-    requires { Limits c × (targets.count ≤ maxLayers) }
-    ensures { (l : List ℕ) → passedOf result ≡ passLayers true (tableIn types.now l c) v (targetsIn targets) }
+    requires { Limits c × (targets.count ≤ max_layers) }
+    ensures { (l : List ℕ) → passed_of result ≡ pass_layers true (table_in types.now l c) v (targets_in targets) }
 {
     let n = targets.count;
     let mut i: usize = 0;

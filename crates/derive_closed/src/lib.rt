@@ -2,7 +2,7 @@
 // types.
 ghost use Rattle.std.specs.Prelude.{◌≡◌, true, ◌<◌};
 ghost use Rattle.spec_model.specs.Table.{closed};
-ghost use Rattle.table_record.specs.Store.{rawOf, refIn};
+ghost use Rattle.table_record.specs.Store.{raw_of, ref_in};
 ghost use Rattle.derive_sub_sup.specs.Link.{Ready, Derives, Gives};
 ghost use Rattle.derive_closed.specs.Numbers.{Alike, NumberIn, NumberRep, NumberType};
 
@@ -13,7 +13,7 @@ use table_record::{Counts, Head, Key, TYPE_BYTES, TypeRec};
 
 // Closed(R,V) of two reference types, with the signatures of Sub(R,V), which takes no number itself (D9, D10).
 fn closed(b: &mut [u8; TYPE_BYTES], c: Counts, r: usize, v: usize) -> Derived
-    requires { Ready c c.types r v b.old × (refIn c.types b.old r ≡ true) × (refIn c.types b.old v ≡ true) }
+    requires { Ready c c.types r v b.old × (ref_in c.types b.old r ≡ true) × (ref_in c.types b.old v ≡ true) }
     ensures { Gives closed c c.types r v b.old b.new result }
 {
     let n = c.types;
@@ -69,7 +69,7 @@ fn number_rep(x: u8) -> u8
 // Closed(R,V) of two number types, from R's head: no methods.
 fn number_type(h: Head, r: usize, v: usize) -> TypeRec
     requires { (r < 256) × (v < 256) }
-    ensures { NumberType h r v (rawOf result) }
+    ensures { NumberType h r v (raw_of result) }
 {
     let empty = TypeRec::empty();
     let methods = empty.methods;
@@ -124,7 +124,7 @@ pub fn closed_any(b: &mut [u8; TYPE_BYTES], c: Counts, r: usize, v: usize) -> De
 
 // Closed(R,V).
 pub fn closed_type(b: &mut [u8; TYPE_BYTES], c: Counts, r: usize, v: usize) -> Derived
-    requires { Ready c c.types r v b.old × (refIn c.types b.old r ≡ true) × (refIn c.types b.old v ≡ true) }
+    requires { Ready c c.types r v b.old × (ref_in c.types b.old r ≡ true) × (ref_in c.types b.old v ≡ true) }
     ensures { Derives closed c r v b.old b.new result }
 {
     closed(b, c, r, v)

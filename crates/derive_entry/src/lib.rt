@@ -1,14 +1,14 @@
 // Sub, Sup and Closed on any table handed in, by the codes of the three kinds and signed numbers of types. A derivation is no request: the requests derive
-// types as they cross. What comes of it is the definition `deriveHanded` in specs/Handed.antt.
+// types as they cross. What comes of it is the definition `derive_handed` in specs/Handed.antt.
 ghost use Rattle.std.specs.Prelude.{◌≡◌, true, ◌&&◌, List, ℕ, ◌≤◌, ◌<◌, length};
 ghost use Rattle.spec_model.specs.Restriction.{derived};
 ghost use Rattle.spec_model.specs.Check.{kind_of};
-ghost use Rattle.spec_model.specs.Table.{maxTypes};
-ghost use Rattle.table_record.specs.Store.{rawTable, tableIn, refIn};
+ghost use Rattle.spec_model.specs.Table.{max_types};
+ghost use Rattle.table_record.specs.Store.{raw_table, table_in, ref_in};
 ghost use Rattle.table_record.specs.Limits.{Limits};
-ghost use Rattle.table_record.specs.Layout.{typesSize};
+ghost use Rattle.table_record.specs.Layout.{types_size};
 ghost use Rattle.derive_sub_sup.specs.Link.{Ready, Derives};
-ghost use Rattle.derive_entry.specs.Handed.{kindAsked, deriveNamed, deriveHanded};
+ghost use Rattle.derive_entry.specs.Handed.{kind_asked, derive_named, derive_handed};
 ghost use Rattle.derive_entry.specs.Result.{DerivesHanded, left};
 
 use derive_record::Derived;
@@ -33,8 +33,8 @@ pub enum Made {
 
 // Whether the kind is one of the three, Closed only of two reference types.
 fn is_asked(b: &[u8; TYPE_BYTES], n: usize, kind: usize, t: usize, s: usize) -> bool
-    requires { n ≤ maxTypes }
-    ensures { result ≡ kindAsked kind (refIn n b.now t && refIn n b.now s) }
+    requires { n ≤ max_types }
+    ensures { result ≡ kind_asked kind (ref_in n b.now t && ref_in n b.now s) }
 {
     if kind < CLOSED {
         return true;
@@ -50,7 +50,7 @@ fn is_asked(b: &[u8; TYPE_BYTES], n: usize, kind: usize, t: usize, s: usize) -> 
 
 // One of the three, over lent bytes.
 fn derive_kind(b: &mut [u8; TYPE_BYTES], c: Counts, kind: usize, t: usize, s: usize) -> Derived
-    requires { Ready c c.types t s b.old × (kindAsked kind (refIn c.types b.old t && refIn c.types b.old s) ≡ true) }
+    requires { Ready c c.types t s b.old × (kind_asked kind (ref_in c.types b.old t && ref_in c.types b.old s) ≡ true) }
     ensures { Derives (kind_of kind) c t s b.old b.new result }
 {
     if kind == SUB {
@@ -64,15 +64,15 @@ fn derive_kind(b: &mut [u8; TYPE_BYTES], c: Counts, kind: usize, t: usize, s: us
 
 // A copy of lent bytes. Bytes that are held have their length, of lent ones nothing says it.
 fn copied(b: [u8; TYPE_BYTES]) -> [u8; TYPE_BYTES]
-    ensures { (result ≡ b) × (length b ≡ typesSize) }
+    ensures { (result ≡ b) × (length b ≡ types_size) }
 {
     b
 }
 
 // The bytes are put back where the table is full (B23).
 fn derive_checked(b: &mut [u8; TYPE_BYTES], c: Counts, kind: usize, t: usize, s: usize) -> Made
-    requires { Limits c × (t < c.types) × (s < c.types) × (kindAsked kind (refIn c.types b.old t && refIn c.types b.old s) ≡ true) }
-    ensures { (l : List ℕ) → DerivesHanded b.old l c (derived (tableIn b.old l c) (kind_of kind) t s) (left c result b.new) }
+    requires { Limits c × (t < c.types) × (s < c.types) × (kind_asked kind (ref_in c.types b.old t && ref_in c.types b.old s) ≡ true) }
+    ensures { (l : List ℕ) → DerivesHanded b.old l c (derived (table_in b.old l c) (kind_of kind) t s) (left c result b.new) }
 {
     let old = copied(*b);
     let d = derive_kind(b, c, kind, t, s);
@@ -88,7 +88,7 @@ fn derive_checked(b: &mut [u8; TYPE_BYTES], c: Counts, kind: usize, t: usize, s:
 // By the numbers of the types, in a table that is checked.
 fn derive_named(b: &mut [u8; TYPE_BYTES], c: Counts, kind: usize, t: i64, s: i64) -> Made
     requires { Limits c }
-    ensures { (l : List ℕ) → DerivesHanded b.old l c (deriveNamed (tableIn b.old l c) kind t s) (left c result b.new) }
+    ensures { (l : List ℕ) → DerivesHanded b.old l c (derive_named (table_in b.old l c) kind t s) (left c result b.new) }
 {
     let x = base_numbers::index_of(t, c.types);
     if c.types <= x {
@@ -113,7 +113,7 @@ pub fn derive(
     t: i64,
     s: i64,
 ) -> Made
-    ensures { DerivesHanded b.old l.now c (deriveHanded (rawTable b.old l.now c) kind t s)
+    ensures { DerivesHanded b.old l.now c (derive_handed (raw_table b.old l.now c) kind t s)
         (left c result b.new) }
 {
     if table_check::table_fits(b, l, c) {

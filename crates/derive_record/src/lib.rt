@@ -3,13 +3,13 @@
 // sides are read before anything is derived, and nothing below the count is ever written (B22). What the results mean is in specs/Begins.antt, the order in
 // which signatures are derived in crate `derive_slots`, the record itself in `derive_type`.
 ghost use Rattle.std.specs.Prelude.{◌≡◌, true, ◌≤◌, ◌<◌, length};
-ghost use Rattle.spec_model.specs.Restriction.{find, withoutNew, mainSide};
+ghost use Rattle.spec_model.specs.Restriction.{find, without_new, main_side};
 ghost use Rattle.spec_model.specs.Check.{kind_of};
-ghost use Rattle.spec_model.specs.Table.{maxMethods, maxTypes};
-ghost use Rattle.table_record.specs.Store.{types_in, typesTo, refIn, withCount};
+ghost use Rattle.spec_model.specs.Table.{max_methods, max_types};
+ghost use Rattle.table_record.specs.Store.{types_in, types_to, ref_in, with_count};
 ghost use Rattle.table_record.specs.Limits.{Limits};
-ghost use Rattle.table_record.specs.Layout.{typesSize};
-ghost use Rattle.derive_record.specs.Begins.{Begins, Opened, Stored, foundOf, tabled};
+ghost use Rattle.table_record.specs.Layout.{types_size};
+ghost use Rattle.derive_record.specs.Begins.{Begins, Opened, Stored, found_of, tabled};
 
 use derive_slots::SLOT_BYTES;
 use derive_type::Work;
@@ -31,8 +31,8 @@ pub enum Begun {
 
 // The lowest of n types with this key, or n. Sheet types are not searched (D14).
 pub fn lookup(b: &[u8; TYPE_BYTES], c: Counts, n: usize, key: Key) -> usize
-    requires { (key.kind < 3) × Limits (withCount c n) }
-    ensures { foundOf n result ≡ find (kind_of key.kind) key.left key.right 0 (typesTo c.methods c.sheet n (types_in b.now)) }
+    requires { (key.kind < 3) × Limits (with_count c n) }
+    ensures { found_of n result ≡ find (kind_of key.kind) key.left key.right 0 (types_to c.methods c.sheet n (types_in b.now)) }
 {
     let mut i = c.sheet;
     while i < n {
@@ -47,8 +47,8 @@ pub fn lookup(b: &[u8; TYPE_BYTES], c: Counts, n: usize, key: Key) -> usize
 
 // Of two reference types: the known type, or whether there is room for a new one (D14, D15).
 pub fn search(b: &[u8; TYPE_BYTES], c: Counts, n: usize, kind: u8, t: usize, s: usize) -> Begun
-    requires { (kind < 3) × Limits (withCount c n) × (refIn n b.now t ≡ true) × (refIn n b.now s ≡ true) }
-    ensures { Begins (λ T. find (kind_of kind) t s 0 (typesTo c.methods c.sheet n (types_in b.now))) n t s b.now result }
+    requires { (kind < 3) × Limits (with_count c n) × (ref_in n b.now t ≡ true) × (ref_in n b.now s ≡ true) }
+    ensures { Begins (λ T. find (kind_of kind) t s 0 (types_to c.methods c.sheet n (types_in b.now))) n t s b.now result }
 {
     let key = Key {
         kind,
@@ -67,7 +67,7 @@ pub fn search(b: &[u8; TYPE_BYTES], c: Counts, n: usize, kind: u8, t: usize, s: 
 
 // The side that Sub or Sup keeps (D13).
 fn main_side(kind: u8, t: usize, s: usize) -> usize
-    ensures { result ≡ mainSide (kind_of kind) t s }
+    ensures { result ≡ main_side (kind_of kind) t s }
 {
     if kind == Key::SUP {
         return s;
@@ -77,8 +77,8 @@ fn main_side(kind: u8, t: usize, s: usize) -> usize
 
 // Sub or Sup of a type with itself is that type, and of numbers the main side (D12, D13).
 pub fn begin(b: &[u8; TYPE_BYTES], c: Counts, n: usize, kind: u8, t: usize, s: usize) -> Begun
-    requires { (kind < 2) × Limits (withCount c n) }
-    ensures { Begins (λ T. withoutNew (tabled T c n b.now) (kind_of kind) t s) n t s b.now result }
+    requires { (kind < 2) × Limits (with_count c n) }
+    ensures { Begins (λ T. without_new (tabled T c n b.now) (kind_of kind) t s) n t s b.now result }
 {
     if t == s {
         return Begun::Settled(Derived::At(t, n));
@@ -97,7 +97,7 @@ pub fn begin(b: &[u8; TYPE_BYTES], c: Counts, n: usize, kind: u8, t: usize, s: u
 
 // Both sides are read. The new type has its number from here on (D16); until its signatures are there every method of it is denied.
 pub fn start(b: &mut [u8; TYPE_BYTES], n: usize, kind: u8, t: usize, s: usize) -> Work
-    requires { (n < maxTypes) × (t < maxTypes) × (s < maxTypes) × (length b.old ≡ typesSize) }
+    requires { (n < max_types) × (t < max_types) × (s < max_types) × (length b.old ≡ types_size) }
     ensures { Opened kind t s n result b.old b.new }
 {
     let x = table_record::get_type(b, t);
@@ -125,7 +125,7 @@ pub fn start(b: &mut [u8; TYPE_BYTES], n: usize, kind: u8, t: usize, s: usize) -
 
 // The type at work is stored, whole (B13).
 pub fn finish(b: &mut [u8; TYPE_BYTES], n: usize, w: Work, methods: usize, bytes: [u8; SLOT_BYTES])
-    requires { (n < maxTypes) × (length b.old ≡ typesSize) × (w.key.kind < 3) × (w.key.left < 256) × (w.key.right < 256) × (methods ≤ maxMethods) }
+    requires { (n < max_types) × (length b.old ≡ types_size) × (w.key.kind < 3) × (w.key.left < 256) × (w.key.right < 256) × (methods ≤ max_methods) }
     ensures { Stored w methods n bytes b.old b.new }
 {
     let z = derive_type::finished(w, methods, bytes);

@@ -1,12 +1,12 @@
 // Derivation (D): whether a type has a key, and what a new type gets from its two sides: the state of each method, and its signature slot by slot. What is
 // derived for a slot is said here, not derived; crate `derive_sub_sup` does that. Five slots to a method, four arguments and the answer (D17).
 ghost use Rattle.std.specs.Prelude.{◌≡◌, ◌<◌, take};
-ghost use Rattle.spec_model.specs.Restriction.{restricted, sameKind, isKey};
-ghost use Rattle.spec_model.specs.Check.{state_of, kind_of, answer_of, methodOf};
-ghost use Rattle.spec_model.specs.Table.{maxTypes};
-ghost use Rattle.spec_model.specs.Records.{argumentSlots};
-ghost use Rattle.table_record.specs.Store.{rawMethod};
-ghost use Rattle.derive_slots.specs.Slots.{answerSlot, argumentSlot, slot_of, slot_at, methodAt, Low, methodSlots, slotsSize, keyIn, keptState};
+ghost use Rattle.spec_model.specs.Restriction.{restricted, same_kind, is_key};
+ghost use Rattle.spec_model.specs.Check.{state_of, kind_of, answer_of, method_of};
+ghost use Rattle.spec_model.specs.Table.{max_types};
+ghost use Rattle.spec_model.specs.Records.{argument_slots};
+ghost use Rattle.table_record.specs.Store.{raw_method};
+ghost use Rattle.derive_slots.specs.Slots.{answer_slot, argument_slot, slot_of, slot_at, method_at, Low, method_slots, slots_size, key_in, kept_state};
 
 use base_numbers::wide;
 use table_record::{Counts, Head, Key, Method, TYPE_BYTES, get_method, permits};
@@ -27,7 +27,7 @@ pub enum Slot {
 // A code past the last kind is read as Closed (B5).
 fn same_kind(kind: u8, k: u8) -> bool
     requires { kind < 3 }
-    ensures { result ≡ sameKind (kind_of kind) (kind_of k) }
+    ensures { result ≡ same_kind (kind_of kind) (kind_of k) }
 {
     if kind == Key::CLOSED {
         return Key::CLOSED <= k;
@@ -38,7 +38,7 @@ fn same_kind(kind: u8, k: u8) -> bool
 // Whether a derived type's head has this key (D14). The left number comes first: it tells most types apart, the kind few.
 pub fn is_key(h: Head, key: Key) -> bool
     requires { key.kind < 3 }
-    ensures { result ≡ isKey (kind_of key.kind) key.left key.right (keyIn h) }
+    ensures { result ≡ is_key (kind_of key.kind) key.left key.right (key_in h) }
 {
     let l = wide(h.left);
     if key.left != l {
@@ -64,7 +64,7 @@ fn state_code(x: u8) -> u8
 // The main side's state, except that a method it permits and the other doesn't is lost (D2, D4).
 fn kept_state(main: u8, other: u8, lost: u8) -> u8
     requires { lost < 4 }
-    ensures { (state_of result ≡ keptState (state_of main) (state_of other) (state_of lost)) × (result < 4) }
+    ensures { (state_of result ≡ kept_state (state_of main) (state_of other) (state_of lost)) × (result < 4) }
 {
     let own = state_code(main);
     let p = permits(own);
@@ -101,7 +101,7 @@ pub fn state_of(kind: u8, x: u8, y: u8) -> u8
 
 // The answer slot, from the answer bytes of both sides.
 fn answer_slot(x: u8, y: u8) -> Slot
-    ensures { (result ≡ answerSlot (answer_of x) (answer_of y)) × Low result }
+    ensures { (result ≡ answer_slot (answer_of x) (answer_of y)) × Low result }
 {
     let l = wide(x);
     let r = wide(y);
@@ -118,8 +118,8 @@ fn answer_slot(x: u8, y: u8) -> Slot
 
 // Argument slot i: the sides are exchanged, the right side's argument on the left (D5, D6).
 fn argument_slot(p: Method, q: Method, i: usize) -> Slot
-    requires { i < argumentSlots }
-    ensures { (result ≡ argumentSlot i (take p.count p.args) (take q.count q.args)) × Low result }
+    requires { i < argument_slots }
+    ensures { (result ≡ argument_slot i (take p.count p.args) (take q.count q.args)) × Low result }
 {
     let c = wide(p.count);
     let e = wide(q.count);
@@ -136,8 +136,8 @@ fn argument_slot(p: Method, q: Method, i: usize) -> Slot
 
 // Slot i of a method: four arguments, then the answer; nothing where the derived type doesn't permit the method.
 fn slot_of(kind: u8, p: Method, q: Method, i: usize) -> Slot
-    requires { (kind < 3) × (i < methodSlots) }
-    ensures { (result ≡ slot_of (kind_of kind) (methodOf (rawMethod p)) (methodOf (rawMethod q)) i) × Low result }
+    requires { (kind < 3) × (i < method_slots) }
+    ensures { (result ≡ slot_of (kind_of kind) (method_of (raw_method p)) (method_of (raw_method q)) i) × Low result }
 {
     let state = state_of(kind, p.state, q.state);
     let stays = permits(state);
@@ -152,8 +152,8 @@ fn slot_of(kind: u8, p: Method, q: Method, i: usize) -> Slot
 
 // Slot k of all, five to a method, of the types that the key names.
 pub fn slot_at(b: &[u8; TYPE_BYTES], key: Key, k: usize) -> Slot
-    requires { (key.kind < 3) × (key.left < maxTypes) × (key.right < maxTypes) × (k < slotsSize) }
-    ensures { (result ≡ slot_at (kind_of key.kind) (methodAt b.now key.left) (methodAt b.now key.right) k) × Low result }
+    requires { (key.kind < 3) × (key.left < max_types) × (key.right < max_types) × (k < slots_size) }
+    ensures { (result ≡ slot_at (kind_of key.kind) (method_at b.now key.left) (method_at b.now key.right) k) × Low result }
 {
     let j = k / METHOD_SLOTS;
     let p = get_method(b, key.left, j);

@@ -8,15 +8,15 @@ use native.Mathlib.Omega.{arith}
 use lib.Dec.{ltb}
 use lib.ListN.{get_or, replicate}
 use Rattle.spec_model.specs.Basics.{all, every, from, ◌⇒◌}
-use Rattle.spec_model.specs.Table.{isRef, between}
-use Rattle.spec_model.specs.Check.{RawMethod, RawType, noRawMethod, noRawType, noRawLinks, repOf, rawMethodFits, rawTypeFits, codesFit}
+use Rattle.spec_model.specs.Table.{is_ref, between}
+use Rattle.spec_model.specs.Check.{RawMethod, RawType, no_raw_method, no_raw_type, no_raw_links, rep_of, raw_method_fits, raw_type_fits, codes_fit}
 use Rattle.spec_model.proofs.Rules.{both, first, second, applied}
 use Rattle.spec_model.proofs.Tests.{so-ltb}
 use Rattle.table_record.specs.declared.Counts.{Counts}
-use Rattle.table_record.specs.Store.{rawMethod, emptyMethod, rawTable, types_in, linksIn, withCount}
+use Rattle.table_record.specs.Store.{raw_method, empty_method, raw_table, types_in, links_in, with_count}
 use Rattle.table_record.proofs.Lists.{same_or}
 use Rattle.derive_type.specs.declared.Work.{Work}
-use Rattle.derive_type.specs.NewType.{newRecord}
+use Rattle.derive_type.specs.NewType.{new_record}
 use Rattle.derive_record.specs.declared.Derived.{Derived}
 use Rattle.derive_record.specs.declared.Derived.TheVariants.{Full, At}
 use Rattle.derive_sub_sup.specs.Link.{Coded, CodedTo, CodesStay}
@@ -40,24 +40,24 @@ all-every : {A : Type 0} (f : A → Bool) (i : ℕ) (xs : List A) → all f xs �
 all-every f i [] = refl
 all-every f i (x ∷ xs) = ap (λ (b : Bool). f x && b) (all-every f (suc i) xs)
 
-pub denied-coded : (n j : ℕ) → So (rawMethodFits (get_or (map rawMethod (replicate n emptyMethod)) j noRawMethod))
+pub denied-coded : (n j : ℕ) → So (raw_method_fits (get_or (map raw_method (replicate n empty_method)) j no_raw_method))
 denied-coded zero j = refl
 denied-coded (suc n) zero = refl
 denied-coded (suc n) (suc j) = denied-coded n j
 
 -- the methods of a reference type
-pub methods-coded : (ms sh i : ℕ) (x : RawType) → So (isRef (repOf x.rep)) → So (rawTypeFits ms sh i x) → (j : ℕ) → j < ms → So (rawMethodFits (get_or x.methods j noRawMethod))
+pub methods-coded : (ms sh i : ℕ) (x : RawType) → So (is_ref (rep_of x.rep)) → So (raw_type_fits ms sh i x) → (j : ℕ) → j < ms → So (raw_method_fits (get_or x.methods j no_raw_method))
 methods-coded ms sh i x r h j l =
-    let f : ℕ → RawMethod = λ j. get_or x.methods j noRawMethod in
-    every-from (λ _. rawMethodFits) f ms 0 (subst So (all-every rawMethodFits 0 (from ms 0 f))
-    (second (ltb x.own 2) _ (applied (first (isRef (repOf x.rep) ⇒ _) _ (second (ltb x.rep 3) _ h)) r))) j (omega arith) (omega arith)
+    let f : ℕ → RawMethod = λ j. get_or x.methods j no_raw_method in
+    every-from (λ _. raw_method_fits) f ms 0 (subst So (all-every raw_method_fits 0 (from ms 0 f))
+    (second (ltb x.own 2) _ (applied (first (is_ref (rep_of x.rep) ⇒ _) _ (second (ltb x.rep 3) _ h)) r))) j (omega arith) (omega arith)
 
 -- a derived type
-pub new_coded : (ms sh n : ℕ) (w : Work) (zs : List RawMethod) → w.key.kind < 3 → ((j : ℕ) → j < ms → So (rawMethodFits (get_or zs j noRawMethod)))
-    → So (rawTypeFits ms sh n (newRecord w zs))
+pub new_coded : (ms sh n : ℕ) (w : Work) (zs : List RawMethod) → w.key.kind < 3 → ((j : ℕ) → j < ms → So (raw_method_fits (get_or zs j no_raw_method)))
+    → So (raw_type_fits ms sh n (new_record w zs))
 new_coded ms sh n w zs k h =
-    both (subst So (sym (all-every rawMethodFits 0 (from ms 0 (λ j. get_or zs j noRawMethod))))
-    (from-every (λ _. rawMethodFits) (λ j. get_or zs j noRawMethod) ms 0 (λ j p q. h j (omega arith)))) (go (ltb n sh))
+    both (subst So (sym (all-every raw_method_fits 0 (from ms 0 (λ j. get_or zs j no_raw_method))))
+    (from-every (λ _. raw_method_fits) (λ j. get_or zs j no_raw_method) ms 0 (λ j p q. h j (omega arith)))) (go (ltb n sh))
   where
     go : (b : Bool) → So (b || ltb w.key.kind 3)
     go true = refl
@@ -65,15 +65,15 @@ new_coded ms sh n w zs k h =
 
 -- The counted records of a table in bytes: as the check of a table asks, and by their numbers.
 module _ (b l : List ℕ) (c : Counts) where
-  pub codes-coded : So (codesFit (rawTable b l c)) → Coded c c.types b
-  unfolding codesFit
-  codes-coded h i p = every-from (rawTypeFits c.methods c.sheet) (λ i. get_or (types_in b) i noRawType) c.types 0
-      (second (all (λ x. between 1 2 x.count) (from c.cats 1 (λ k. get_or (linksIn l) k noRawLinks))) _ h) i (omega arith) (omega arith)
+  pub codes-coded : So (codes_fit (raw_table b l c)) → Coded c c.types b
+  unfolding codes_fit
+  codes-coded h i p = every-from (raw_type_fits c.methods c.sheet) (λ i. get_or (types_in b) i no_raw_type) c.types 0
+      (second (all (λ x. between 1 2 x.count) (from c.cats 1 (λ k. get_or (links_in l) k no_raw_links))) _ h) i (omega arith) (omega arith)
 
-pub coded-codes : (b b' l : List ℕ) (c : Counts) (m : ℕ) → So (codesFit (rawTable b l c)) → Coded c m b' → So (codesFit (rawTable b' l (withCount c m)))
-unfolding codesFit
-coded-codes b b' l c m h k = both (first (all (λ x. between 1 2 x.count) (from c.cats 1 (λ k. get_or (linksIn l) k noRawLinks))) _ h)
-    (from-every (rawTypeFits c.methods c.sheet) (λ i. get_or (types_in b') i noRawType) m 0 (λ i p q. k i (omega arith)))
+pub coded-codes : (b b' l : List ℕ) (c : Counts) (m : ℕ) → So (codes_fit (raw_table b l c)) → Coded c m b' → So (codes_fit (raw_table b' l (with_count c m)))
+unfolding codes_fit
+coded-codes b b' l c m h k = both (first (all (λ x. between 1 2 x.count) (from c.cats 1 (λ k. get_or (links_in l) k no_raw_links))) _ h)
+    (from-every (raw_type_fits c.methods c.sheet) (λ i. get_or (types_in b') i no_raw_type) m 0 (λ i p q. k i (omega arith)))
 
 pub codes-stay : (b b' : List ℕ) (c : Counts) (r : Derived) → (Coded c c.types b → CodedTo c b' r) → CodesStay c b b' r
 codes-stay b b' c Full h l k = tt

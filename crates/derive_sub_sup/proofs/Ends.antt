@@ -12,39 +12,39 @@ use lib.ListN.{length, get_or, set, take, drop, replicate, get_or-eq_default}
 use lib.Seq.{get_or-set_same, get_or-set_other}
 use borrow.Author.Tests.{lt-ltb, le-ltb}
 use Rattle.spec_model.specs.Basics.{Res, refuse, ok, then, from}
-use Rattle.spec_model.specs.Table.{Rep, ref, w32, w64, Kind, sub, sup, closed, Method, Ty, Table, noMethod, noType, size, type_at, withTypes, isRef, permit}
-use Rattle.spec_model.specs.Table.{Key as Keyᵐ, maxMethods, maxTypes}
-use Rattle.spec_model.specs.Restriction.{mainSide, withoutNew, entry, pending, Derivation, deriveMethods, make, derive, derived}
-use Rattle.spec_model.specs.Check.{RawMethod, RawType, noRawType, noRawMethod, repOf, kind_of, state_of, methodOf, type_of, table_of, rawMethodFits, rawTypeFits}
+use Rattle.spec_model.specs.Table.{Rep, ref, w32, w64, Kind, sub, sup, closed, Method, Ty, Table, no_method, no_type, size, type_at, with_types, is_ref, permit}
+use Rattle.spec_model.specs.Table.{Key as Keyᵐ, max_methods, max_types}
+use Rattle.spec_model.specs.Restriction.{main_side, without_new, entry, pending, Derivation, derive_methods, make, derive, derived}
+use Rattle.spec_model.specs.Check.{RawMethod, RawType, no_raw_type, no_raw_method, rep_of, kind_of, state_of, method_of, type_of, table_of, raw_method_fits, raw_type_fits}
 use Rattle.spec_model.proofs.Rules.{never}
 use Rattle.table_record.specs.declared.Counts.{Counts}
 use Rattle.table_record.specs.declared.Key.{Key}
 use Rattle.table_record.specs.declared.TypeRec.{TypeRec}
-use Rattle.table_record.specs.Store.{rawMethod, rawOf, types_in, typesTo, tableIn, refIn, withCount, emptyMethod, Put}
+use Rattle.table_record.specs.Store.{raw_method, raw_of, types_in, types_to, table_in, ref_in, with_count, empty_method, Put}
 use Rattle.table_record.specs.Limits.{Limits}
 use Rattle.table_record.specs.Records.{bytes_of}
 use Rattle.spec_model.proofs.Lists.{from-same}
-use Rattle.spec_model.specs.Refusals.{typesFull}
-use Rattle.spec_model.specs.Records.{argumentSlots}
+use Rattle.spec_model.specs.Refusals.{types_full}
+use Rattle.spec_model.specs.Records.{argument_slots}
 use Rattle.table_record.proofs.Lists.{lt-or-ge, same_or}
 use Rattle.table_record.proofs.Laws.{types-length, methods-length, method-in, put-length, put-types}
 use Rattle.table_record.proofs.Tables.{types-to-length, types-to-at, types-add, types-put, types_of, size_is, ref-below}
-use Rattle.table_record.specs.Layout.{typeSize, typesSize}
+use Rattle.table_record.specs.Layout.{type_size, types_size}
 use Rattle.derive_record.specs.declared.Derived.{Derived}
 use Rattle.derive_record.specs.declared.Derived.TheVariants.{Full, At}
 use Rattle.derive_record.specs.declared.Begun.{Begun}
 use Rattle.derive_record.specs.declared.Begun.TheVariants.{Settled, New}
 use Rattle.derive_type.specs.declared.Work.{Work}
 use Rattle.derive_slots.specs.declared.Slot.{Slot}
-use Rattle.derive_slots.specs.Slots.{slot_at, methodAt, methodSlots, slotsSize}
-use Rattle.derive_type.specs.NewType.{shared, fillAt, leftIn, rightIn, methodIn, kindIn, mainOf, newRecord, pendingRecord, Finished}
+use Rattle.derive_slots.specs.Slots.{slot_at, method_at, method_slots, slots_size}
+use Rattle.derive_type.specs.NewType.{shared, fill_at, left_in, right_in, method_in, kind_in, main_of, new_record, pending_record, Finished}
 use Rattle.derive_record.specs.Begins.{Begins, Opened, Stored, tabled}
-use Rattle.derive_sub_sup.specs.Link.{Ready, Writes, recordAt, Kept, ExactAt, Exact, ExactTo, Sized, Leaves, Coded, Derives, Gives, derivedIn, derivationIn}
+use Rattle.derive_sub_sup.specs.Link.{Ready, Writes, record_at, Kept, ExactAt, Exact, ExactTo, Sized, Leaves, Coded, Derives, Gives, derived_in, derivation_in}
 use Rattle.derive_type.proofs.Runs.{Row, methods-run}
 use Rattle.derive_record.proofs.Begins.{ref-rep}
 use Rattle.derive_sub_sup.proofs.Bytes.{record_same, exact_same, put-below, put-above, put-exact, kept-take, exact-take}
 use Rattle.derive_sub_sup.proofs.Codes.{denied-coded, methods-coded, new_coded, codes-stay}
-use Rattle.derive_sub_sup.proofs.Turns.{zeros, slotIn, Whole, Comes, Loop, loop-starts, loop-ends}
+use Rattle.derive_sub_sup.proofs.Turns.{zeros, slot_in, Whole, Comes, Loop, loop-starts, loop-ends}
 
 -- What needs no new type.
 module _ (T : Table) where
@@ -58,35 +58,35 @@ by-room : (rest : Option (Table × ℕ)) (b : Bool) → b ≡ false → ◌≡�
 by-room rest b e = ap (λ (z : Bool). elim z as (λ _. Option (Table × ℕ)) [ false ↦ none | true ↦ rest ]) e
 
 module _ (T : Table) (d : Kind) (t s : ℕ) where
-  derive-known : (i f : ℕ) → withoutNew T d t s ≡ some i → some (T, i) ≡ derive f T d t s
+  derive-known : (i f : ℕ) → without_new T d t s ≡ some i → some (T, i) ≡ derive f T d t s
   unfolding derive make
-  derive-known i zero e = by-known T i none (withoutNew T d t s) e
-  derive-known i (suc f) e = by-known T i _ (withoutNew T d t s) e
+  derive-known i zero e = by-known T i none (without_new T d t s) e
+  derive-known i (suc f) e = by-known T i _ (without_new T d t s) e
 
-  derive-full : (f : ℕ) → withoutNew T d t s ≡ none → maxTypes ≤ size T → none ≡ derive f T d t s
+  derive-full : (f : ℕ) → without_new T d t s ≡ none → max_types ≤ size T → none ≡ derive f T d t s
   unfolding derive make
-  derive-full zero e h = sym (by-new T none (withoutNew T d t s) e)
-  derive-full (suc f) e h = sym (by-new T _ (withoutNew T d t s) e ∙ by-room _ (ltb (size T) maxTypes) (le-ltb (size T) maxTypes h))
+  derive-full zero e h = sym (by-new T none (without_new T d t s) e)
+  derive-full (suc f) e h = sym (by-new T _ (without_new T d t s) e ∙ by-room _ (ltb (size T) max_types) (le-ltb (size T) max_types h))
 
   -- The methods of a type that is not known are derived on the table with its number taken, and stored at that number.
   abbrev pub Last : ℕ → Option (Table × List Method) → Option (Table × ℕ)
-  Last k o = then o λ p. some (withTypes p.0 (set p.0.types k (entry T d t s p.1)), k)
+  Last k o = then o λ p. some (with_types p.0 (set p.0.types k (entry T d t s p.1)), k)
 
   abbrev pub Methods : Derivation → Option (Table × List Method)
-  Methods rec = deriveMethods rec d (withTypes T (T.types ++ (pending T d t s ∷ []))) (type_at T t).methods (type_at T s).methods
+  Methods rec = derive_methods rec d (with_types T (T.types ++ (pending T d t s ∷ []))) (type_at T t).methods (type_at T s).methods
 
-  pub make-new : (n : ℕ) → withoutNew T d t s ≡ none → size T ≡ n → n < maxTypes → (rec : Derivation) → make rec T d t s ≡ Last n (Methods rec)
+  pub make-new : (n : ℕ) → without_new T d t s ≡ none → size T ≡ n → n < max_types → (rec : Derivation) → make rec T d t s ≡ Last n (Methods rec)
   unfolding make
   make-new n unknown is room rec =
-      by-new T (elim (ltb (size T) maxTypes) as (λ _. Option (Table × ℕ)) [ false ↦ none | true ↦ Last (size T) (Methods rec) ]) (withoutNew T d t s) unknown
-      ∙ ap (λ (k : ℕ). elim (ltb k maxTypes) as (λ _. Option (Table × ℕ)) [ false ↦ none | true ↦ Last k (Methods rec) ]) is
-      ∙ ap (λ (a : Bool). elim a as (λ _. Option (Table × ℕ)) [ false ↦ none | true ↦ Last n (Methods rec) ]) (lt-ltb n maxTypes room)
+      by-new T (elim (ltb (size T) max_types) as (λ _. Option (Table × ℕ)) [ false ↦ none | true ↦ Last (size T) (Methods rec) ]) (without_new T d t s) unknown
+      ∙ ap (λ (k : ℕ). elim (ltb k max_types) as (λ _. Option (Table × ℕ)) [ false ↦ none | true ↦ Last k (Methods rec) ]) is
+      ∙ ap (λ (a : Bool). elim a as (λ _. Option (Table × ℕ)) [ false ↦ none | true ↦ Last n (Methods rec) ]) (lt-ltb n max_types room)
 
 pub size-tabled : (T : Table) (c : Counts) (n : ℕ) (b : List ℕ) → size (tabled T c n b) ≡ n
 size-tabled T c n b = types-to-length c.methods c.sheet (types_in b) n
 
 abbrev Without : Kind → Counts → ℕ → ℕ → ℕ → List ℕ → Table → Option ℕ
-Without d c n t s b T = withoutNew (tabled T c n b) d t s
+Without d c n t s b T = without_new (tabled T c n b) d t s
 
 module _ (d : Kind) {c : Counts} {n t s : ℕ} {b : List ℕ} (asked : Ready c n t s b) where
   by_answer : (r : Derived) → Begins (Without d c n t s b) n t s b (Settled r) → Gives d c n t s b b r
@@ -111,26 +111,26 @@ module _ (d : Kind) {c : Counts} {n t s : ℕ} {b : List ℕ} (asked : Ready c n
     new-begins = subst (Begins (Without d c n t s b) n t s b) e h
 
     -- what `start` asks
-    pub new-ready : (n < maxTypes) × (t < maxTypes) × (s < maxTypes) × (length b ≡ typesSize)
+    pub new-ready : (n < max_types) × (t < max_types) × (s < max_types) × (length b ≡ types_size)
     new-ready =
         let p = ref-below n t b new-begins.2 in let q = ref-below n s b new-begins.3 in let u = asked.limits.types in
         (new-begins.1, omega arith, omega arith, asked.long)
 
 -- A new type: what is known when the type at work has been stored.
 pub record Started (d : Kind) (c : Counts) (n t s : ℕ) (w : Work) (b b₀ : List ℕ) : Type 0 where
-  pub limits : Limits (withCount c n)
-  pub room : n < maxTypes
-  pub kinds : kindIn w ≡ d
+  pub limits : Limits (with_count c n)
+  pub room : n < max_types
+  pub kinds : kind_in w ≡ d
   pub known : w.key.kind < 3
-  pub keyLeft : w.key.left ≡ t
-  pub keyRight : w.key.right ≡ s
-  pub new : (T : Table) → withoutNew (tabled T c n b) d t s ≡ none
-  pub left : refIn n b t ≡ true
-  pub right : refIn n b s ≡ true
-  pub leftRecord : rawOf (leftIn w) ≡ get_or (types_in b) t noRawType
-  pub rightRecord : rawOf (rightIn w) ≡ get_or (types_in b) s noRawType
-  pub put : Put b n (pendingRecord w) b₀
-  pub long : length b ≡ typesSize
+  pub key_left : w.key.left ≡ t
+  pub key_right : w.key.right ≡ s
+  pub new : (T : Table) → without_new (tabled T c n b) d t s ≡ none
+  pub left : ref_in n b t ≡ true
+  pub right : ref_in n b s ≡ true
+  pub left_record : raw_of (left_in w) ≡ get_or (types_in b) t no_raw_type
+  pub right_record : raw_of (right_in w) ≡ get_or (types_in b) s no_raw_type
+  pub put : Put b n (pending_record w) b₀
+  pub long : length b ≡ types_size
 
 pub started : {d : Kind} {kind : ℕ} {c : Counts} {n t s : ℕ} {w : Work} {b b₀ : List ℕ} {g : Begun} → Ready c n t s b → kind_of kind ≡ d → kind < 3 → g ≡ New → Begins
     (Without d c n t s b) n t s b g → Opened kind t s n w b b₀ → Started d c n t s w b b₀
@@ -139,13 +139,13 @@ started {d} {kind} asked kinds known told begun o = let h = new-begins d asked t
   room = h.1;
   kinds = ap (λ (k : Key). kind_of k.kind) o.key ∙ kinds;
   known = subst (λ (k : Key). k.kind < 3) (sym o.key) known;
-  keyLeft = ap (λ (k : Key). k.left) o.key;
-  keyRight = ap (λ (k : Key). k.right) o.key;
+  key_left = ap (λ (k : Key). k.left) o.key;
+  key_right = ap (λ (k : Key). k.right) o.key;
   new = h.0;
   left = h.2;
   right = h.3;
-  leftRecord = o.left;
-  rightRecord = o.right;
+  left_record = o.left;
+  right_record = o.right;
   put = o.put;
   long = asked.long;
 }
@@ -161,27 +161,27 @@ take-le zero l = omega arith
 take-le (suc c) [] = omega arith
 take-le (suc c) (x ∷ l) = let h = take-le c l in omega arith
 
-raw-four : (b : List ℕ) (t j : ℕ) → t < maxTypes → length (get_or (get_or (types_in b) t noRawType).methods j noRawMethod).args ≤ argumentSlots
+raw-four : (b : List ℕ) (t j : ℕ) → t < max_types → length (get_or (get_or (types_in b) t no_raw_type).methods j no_raw_method).args ≤ argument_slots
 raw-four b t j h = ⊎_elim
-    (λ (l : j < maxMethods). let e : length (get_or (get_or (types_in b) t noRawType).methods j noRawMethod).args ≡ argumentSlots = ap (λ (m : RawMethod). length m.args)
+    (λ (l : j < max_methods). let e : length (get_or (get_or (types_in b) t no_raw_type).methods j no_raw_method).args ≡ argument_slots = ap (λ (m : RawMethod). length m.args)
     (method-in b t j h l) in omega arith)
-    (λ (l : maxMethods ≤ j). let g = methods-length b t h in
-    let e : length (get_or (get_or (types_in b) t noRawType).methods j noRawMethod).args ≡ 0 = ap (λ (m : RawMethod). length m.args)
-    (get_or-eq_default (get_or (types_in b) t noRawType).methods noRawMethod {n = j} (omega arith)) in omega arith)
-    (lt-or-ge j maxMethods)
+    (λ (l : max_methods ≤ j). let g = methods-length b t h in
+    let e : length (get_or (get_or (types_in b) t no_raw_type).methods j no_raw_method).args ≡ 0 = ap (λ (m : RawMethod). length m.args)
+    (get_or-eq_default (get_or (types_in b) t no_raw_type).methods no_raw_method {n = j} (omega arith)) in omega arith)
+    (lt-or-ge j max_methods)
 
-method-four : (m : RawMethod) → length m.args ≤ argumentSlots → length (methodOf m).args ≤ argumentSlots
+method-four : (m : RawMethod) → length m.args ≤ argument_slots → length (method_of m).args ≤ argument_slots
 method-four m h = go (permit (state_of m.state))
   where
-    go : (b : Bool) → length (cond b (take m.count m.args) []) ≤ argumentSlots
+    go : (b : Bool) → length (cond b (take m.count m.args) []) ≤ argument_slots
     go true = let e = take-le m.count m.args in omega arith
     go false = omega arith
 
 -- every method of a type at work is denied
-pending-method : (j : ℕ) → methodOf (get_or (map rawMethod (replicate maxMethods emptyMethod)) j noRawMethod) ≡ noMethod
-pending-method j = go maxMethods j
+pending-method : (j : ℕ) → method_of (get_or (map raw_method (replicate max_methods empty_method)) j no_raw_method) ≡ no_method
+pending-method j = go max_methods j
   where
-    go : (n j : ℕ) → methodOf (get_or (map rawMethod (replicate n emptyMethod)) j noRawMethod) ≡ noMethod
+    go : (n j : ℕ) → method_of (get_or (map raw_method (replicate n empty_method)) j no_raw_method) ≡ no_method
     go zero j = refl
     go (suc n) zero = refl
     go (suc n) (suc j) = go n j
@@ -191,14 +191,14 @@ zero-at zero i = refl
 zero-at (suc n) zero = refl
 zero-at (suc n) (suc i) = zero-at n i
 
-is-ref : (r : Rep) → isRef r ≡ true → r ≡ ref
+is-ref : (r : Rep) → is_ref r ≡ true → r ≡ ref
 is-ref ref h = refl
 is-ref w32 h = never h
 is-ref w64 h = never h
 
 -- a type by its parts
 ty-eq : {r r' : Rep} {c c' : ℕ} {ms ms' : List Method} {k k' : Option Keyᵐ} → r ≡ r' → c ≡ c' → ms ≡ ms' → k ≡ k'
-    → ◌≡◌ {A = Ty} (record { rep = r; cat = c; own_val = false; methods = ms; key = k }) (record { rep = r'; cat = c'; own_val = false; methods = ms'; key = k' })
+    → ◌≡◌ {A = Ty} (record { rep = r; cat = c; own = false; methods = ms; key = k }) (record { rep = r'; cat = c'; own = false; methods = ms'; key = k' })
 ty-eq p q r s = rw (p, q, r, s)
 
 key-eq : (n sh : ℕ) → sh ≤ n → {d e : Kind} {l l' r r' : ℕ} → d ≡ e → l ≡ l' → r ≡ r'
@@ -206,25 +206,25 @@ key-eq : (n sh : ℕ) → sh ≤ n → {d e : Kind} {l l' r r' : ℕ} → d ≡ 
 key-eq n sh h p q r = rw (le-ltb n sh h, p, q, r)
 
 -- a side that is a reference type, as it is read
-module _ (T : Table) (c : Counts) (n : ℕ) (b : List ℕ) (i : ℕ) (z : TypeRec) (r : refIn n b i ≡ true) (e : rawOf z ≡ get_or (types_in b) i noRawType) where
-  read-type : type_at (tabled T c n b) i ≡ type_of c.methods c.sheet i (rawOf z)
-  read-type = types-to-at c.methods c.sheet (types_in b) n i noType (ref-below n i b r) ∙ ap (type_of c.methods c.sheet i) (sym e)
+module _ (T : Table) (c : Counts) (n : ℕ) (b : List ℕ) (i : ℕ) (z : TypeRec) (r : ref_in n b i ≡ true) (e : raw_of z ≡ get_or (types_in b) i no_raw_type) where
+  read-type : type_at (tabled T c n b) i ≡ type_of c.methods c.sheet i (raw_of z)
+  read-type = types-to-at c.methods c.sheet (types_in b) n i no_type (ref-below n i b r) ∙ ap (type_of c.methods c.sheet i) (sym e)
 
-  read-ref : isRef (repOf z.head.rep) ≡ true
-  read-ref = ap (λ (w : RawType). isRef (repOf w.rep)) e ∙ ref-rep n i b r
+  read-ref : is_ref (rep_of z.head.rep) ≡ true
+  read-ref = ap (λ (w : RawType). is_ref (rep_of w.rep)) e ∙ ref-rep n i b r
 
-  side-methods : (type_at (tabled T c n b) i).methods ≡ from c.methods 0 (methodIn z)
-  side-methods = ap (λ (w : Ty). w.methods) read-type ∙ ap (λ (a : Bool). cond a (from c.methods 0 (methodIn z)) []) read-ref
+  side-methods : (type_at (tabled T c n b) i).methods ≡ from c.methods 0 (method_in z)
+  side-methods = ap (λ (w : Ty). w.methods) read-type ∙ ap (λ (a : Bool). cond a (from c.methods 0 (method_in z)) []) read-ref
 
   side-is : ((type_at (tabled T c n b) i).rep ≡ ref) × ((type_at (tabled T c n b) i).cat ≡ z.head.cat)
-  side-is = (ap (λ (w : Ty). w.rep) read-type ∙ is-ref (repOf z.head.rep) read-ref, ap (λ (w : Ty). w.cat) read-type)
+  side-is = (ap (λ (w : Ty). w.rep) read-type ∙ is-ref (rep_of z.head.rep) read-ref, ap (λ (w : Ty). w.cat) read-type)
 
 module _ {d : Kind} {c : Counts} {n t s : ℕ} {w : Work} {b b₀ : List ℕ} (from_start : Started d c n t s w b b₀) where
   abbrev x : TypeRec
-  x = leftIn w
+  x = left_in w
 
   abbrev y : TypeRec
-  y = rightIn w
+  y = right_in w
 
   abbrev ms : ℕ
   ms = c.methods
@@ -232,75 +232,75 @@ module _ {d : Kind} {c : Counts} {n t s : ℕ} {w : Work} {b b₀ : List ℕ} (f
   abbrev sh : ℕ
   sh = c.sheet
 
-  stored : types_in b₀ ≡ set (types_in b) n (pendingRecord w)
+  stored : types_in b₀ ≡ set (types_in b) n (pending_record w)
   stored = put-types from_start.put from_start.long from_start.room
 
-  few-args : (i : ℕ) → shared (methodIn x i).args (methodIn y i).args ≤ argumentSlots
+  few-args : (i : ℕ) → shared (method_in x i).args (method_in y i).args ≤ argument_slots
   few-args i =
       let p = ref-below n t b from_start.left in let q = from_start.room in
-      let e = shared-left (methodIn x i).args (methodIn y i).args in
-      let h : length (get_or (rawOf x).methods i noRawMethod).args ≤ argumentSlots = subst (λ (r : RawType). length (get_or r.methods i noRawMethod).args ≤ argumentSlots)
-      (sym from_start.leftRecord)
+      let e = shared-left (method_in x i).args (method_in y i).args in
+      let h : length (get_or (raw_of x).methods i no_raw_method).args ≤ argument_slots = subst (λ (r : RawType). length (get_or r.methods i no_raw_method).args ≤ argument_slots)
+      (sym from_start.left_record)
       (raw-four b t i (omega arith)) in
-      let g = method-four (get_or (rawOf x).methods i noRawMethod) h in omega arith
+      let g = method-four (get_or (raw_of x).methods i no_raw_method) h in omega arith
 
   -- nothing below the count was written
   start-kept : Kept n b b₀
   start-kept i l = put-below from_start.put from_start.long from_start.room i (let r = from_start.room in omega arith) l
 
   -- The codes of the left side's methods, of the type at work, and of the finished one.
-  side-coded : Coded c n b → (j : ℕ) → j < ms → So (rawMethodFits (get_or (rawOf x).methods j noRawMethod))
-  side-coded h j l = subst (λ (r : RawType). So (rawMethodFits (get_or r.methods j noRawMethod))) (sym from_start.leftRecord)
-      (methods-coded ms sh t (get_or (types_in b) t noRawType) (ref-rep n t b from_start.left) (h t (ref-below n t b from_start.left)) j l)
+  side-coded : Coded c n b → (j : ℕ) → j < ms → So (raw_method_fits (get_or (raw_of x).methods j no_raw_method))
+  side-coded h j l = subst (λ (r : RawType). So (raw_method_fits (get_or r.methods j no_raw_method))) (sym from_start.left_record)
+      (methods-coded ms sh t (get_or (types_in b) t no_raw_type) (ref-rep n t b from_start.left) (h t (ref-below n t b from_start.left)) j l)
 
   start-coded : Coded c n b → Coded c (n + 1) b₀
   start-coded h i l = ⊎_elim
-      (λ (p : i < n). subst (λ (r : RawType). So (rawTypeFits ms sh i r)) (sym (record_same b b₀ i (let r = from_start.room in omega arith) (start-kept i p))) (h i p))
+      (λ (p : i < n). subst (λ (r : RawType). So (raw_type_fits ms sh i r)) (sym (record_same b b₀ i (let r = from_start.room in omega arith) (start-kept i p))) (h i p))
       (λ (p : n ≤ i). let e : i ≡ n = omega arith in
-      subst (λ (k : ℕ). So (rawTypeFits ms sh k (get_or (types_in b₀) k noRawType))) (sym e)
-      (subst (λ (r : RawType). So (rawTypeFits ms sh n r)) (sym
-      (ap (λ (rs : List RawType). get_or rs n noRawType) stored ∙ get_or-set_same (types_in b) n (pendingRecord w) noRawType (let z = types-length b in let r = from_start.room in omega arith)))
-      (new_coded ms sh n w (map rawMethod (replicate maxMethods emptyMethod)) from_start.known (λ j l. denied-coded maxMethods j))))
+      subst (λ (k : ℕ). So (raw_type_fits ms sh k (get_or (types_in b₀) k no_raw_type))) (sym e)
+      (subst (λ (r : RawType). So (raw_type_fits ms sh n r)) (sym
+      (ap (λ (rs : List RawType). get_or rs n no_raw_type) stored ∙ get_or-set_same (types_in b) n (pending_record w) no_raw_type (let z = types-length b in let r = from_start.room in omega arith)))
+      (new_coded ms sh n w (map raw_method (replicate max_methods empty_method)) from_start.known (λ j l. denied-coded max_methods j))))
       (lt-or-ge i n)
 
-  finished-coded : Coded c n b → (z : TypeRec) {ns : List ℕ} → Finished w ms ns z → So (rawTypeFits ms sh n (rawOf z))
-  finished-coded h z fin = subst (λ (r : RawType). So (rawTypeFits ms sh n r)) (sym fin.head)
-      (new_coded ms sh n w (rawOf z).methods from_start.known (λ j l. fin.coded j l (side-coded h j l)))
+  finished-coded : Coded c n b → (z : TypeRec) {ns : List ℕ} → Finished w ms ns z → So (raw_type_fits ms sh n (raw_of z))
+  finished-coded h z fin = subst (λ (r : RawType). So (raw_type_fits ms sh n r)) (sym fin.head)
+      (new_coded ms sh n w (raw_of z).methods from_start.known (λ j l. fin.coded j l (side-coded h j l)))
 
-  pub start_loop : Loop d c n w b₀ b₀ (ms * methodSlots) zeros (n + 1) 0
+  pub start_loop : Loop d c n w b₀ b₀ (ms * method_slots) zeros (n + 1) 0
   start_loop = loop-starts d c n w b₀ from_start.limits from_start.kinds from_start.room (put-length from_start.put ∙ from_start.long)
 
   -- Both sides stand in the bytes as they were read, so that a slot is that of the type at work; and what reading it asks.
   side-stays : {b₁ : List ℕ} {end : ℕ} {ns : List ℕ} {m k : ℕ} → Loop d c n w b₀ b₁ end ns m k → (i : ℕ) → i < n
-      → get_or (types_in b₁) i noRawType ≡ get_or (types_in b) i noRawType
+      → get_or (types_in b₁) i no_raw_type ≡ get_or (types_in b) i no_raw_type
   side-stays {b₁} now i l =
       let r = from_start.room in
       record_same b₀ b₁ i (omega arith) (now.kept i (omega arith)) ∙ record_same b b₀ i (omega arith) (start-kept i l)
 
   pub slot-ready : {b₁ : List ℕ} {end : ℕ} {ns : List ℕ} {m k : ℕ} → Loop d c n w b₀ b₁ end ns m k → k < end → {kind : ℕ} → kind < 3
-      → (kind < 3) × (t < maxTypes) × (s < maxTypes) × (k < slotsSize)
+      → (kind < 3) × (t < max_types) × (s < max_types) × (k < slots_size)
   slot-ready now test known =
       let p = ref-below n t b from_start.left in let q = ref-below n s b from_start.right in let r = from_start.room in let e = now.edge in let u = now.limits.methods in
       (known, omega arith, omega arith, omega arith)
 
   pub slot_read : {b₁ : List ℕ} {end : ℕ} {ns : List ℕ} {m k : ℕ} → Loop d c n w b₀ b₁ end ns m k → {slot : Slot}
-      → slot ≡ slot_at d (methodAt b₁ t) (methodAt b₁ s) k → slot ≡ slotIn (kindIn w) w k
+      → slot ≡ slot_at d (method_at b₁ t) (method_at b₁ s) k → slot ≡ slot_in (kind_in w) w k
   slot_read {b₁} {k = k} now told =
-      let side : RawType → ℕ → Method = λ r j. methodOf (get_or r.methods j noRawMethod) in
-      told ∙ ap (λ (e : Kind). slot_at e (methodAt b₁ t) (methodAt b₁ s) k) (sym from_start.kinds)
-      ∙ ap (λ (r : RawType). slot_at (kindIn w) (side r) (methodAt b₁ s) k) (side-stays now t (ref-below n t b from_start.left) ∙ sym from_start.leftRecord)
-      ∙ ap (λ (r : RawType). slot_at (kindIn w) (methodIn x) (side r) k) (side-stays now s (ref-below n s b from_start.right) ∙ sym from_start.rightRecord)
+      let side : RawType → ℕ → Method = λ r j. method_of (get_or r.methods j no_raw_method) in
+      told ∙ ap (λ (e : Kind). slot_at e (method_at b₁ t) (method_at b₁ s) k) (sym from_start.kinds)
+      ∙ ap (λ (r : RawType). slot_at (kind_in w) (side r) (method_at b₁ s) k) (side-stays now t (ref-below n t b from_start.left) ∙ sym from_start.left_record)
+      ∙ ap (λ (r : RawType). slot_at (kind_in w) (method_in x) (side r) k) (side-stays now s (ref-below n s b from_start.right) ∙ sym from_start.right_record)
 
   -- what `finish` asks
   pub finish-ready : {b₁ : List ℕ} {end : ℕ} {ns : List ℕ} {m k : ℕ} → Ready c n t s b → Loop d c n w b₀ b₁ end ns m k
-      → (n < maxTypes) × (length b₁ ≡ typesSize) × (w.key.kind < 3) ×
-      (w.key.left < 256) × (w.key.right < 256) × (ms ≤ maxMethods)
+      → (n < max_types) × (length b₁ ≡ types_size) × (w.key.kind < 3) ×
+      (w.key.left < 256) × (w.key.right < 256) × (ms ≤ max_methods)
   finish-ready asked now = (
     from_start.room,
     now.long,
     from_start.known,
-    subst (λ (i : ℕ). i < 256) (sym from_start.keyLeft) asked.left,
-    subst (λ (i : ℕ). i < 256) (sym from_start.keyRight) asked.right,
+    subst (λ (i : ℕ). i < 256) (sym from_start.key_left) asked.left,
+    subst (λ (i : ℕ). i < 256) (sym from_start.key_right) asked.right,
     from_start.limits.methods,
   )
 
@@ -309,33 +309,33 @@ module _ {d : Kind} {c : Counts} {n t s : ℕ} {w : Work} {b b₀ : List ℕ} (f
     Tb = tabled T c n b
 
     -- the main side: a reference type, whose category is kept
-    main-is : (k : Kind) → ((type_at Tb (mainSide k t s)).rep ≡ ref) × ((type_at Tb (mainSide k t s)).cat ≡ (mainOf k x y).head.cat)
-    main-is sub = side-is T c n b t x from_start.left from_start.leftRecord
-    main-is sup = side-is T c n b s y from_start.right from_start.rightRecord
-    main-is closed = side-is T c n b t x from_start.left from_start.leftRecord
+    main-is : (k : Kind) → ((type_at Tb (main_side k t s)).rep ≡ ref) × ((type_at Tb (main_side k t s)).cat ≡ (main_of k x y).head.cat)
+    main-is sub = side-is T c n b t x from_start.left from_start.left_record
+    main-is sup = side-is T c n b s y from_start.right from_start.right_record
+    main-is closed = side-is T c n b t x from_start.left from_start.left_record
 
     -- the record that is stored is the model's entry
-    entry-is : (zs : List RawMethod) (ws : List Method) → from ms 0 (λ j. methodOf (get_or zs j noRawMethod)) ≡ ws → type_of ms sh n (newRecord w zs) ≡ entry Tb d t s ws
-    entry-is zs ws e = ty-eq (sym (main-is d).0) (ap (λ (k : Kind). (mainOf k x y).head.cat) from_start.kinds ∙ sym (main-is d).1) e
-        (key-eq n sh from_start.limits.counted from_start.kinds from_start.keyLeft from_start.keyRight)
+    entry-is : (zs : List RawMethod) (ws : List Method) → from ms 0 (λ j. method_of (get_or zs j no_raw_method)) ≡ ws → type_of ms sh n (new_record w zs) ≡ entry Tb d t s ws
+    entry-is zs ws e = ty-eq (sym (main-is d).0) (ap (λ (k : Kind). (main_of k x y).head.cat) from_start.kinds ∙ sym (main-is d).1) e
+        (key-eq n sh from_start.limits.counted from_start.kinds from_start.key_left from_start.key_right)
 
-    pending-is : type_of ms sh n (pendingRecord w) ≡ pending Tb d t s
+    pending-is : type_of ms sh n (pending_record w) ≡ pending Tb d t s
     pending-is =
-        entry-is (map rawMethod (replicate maxMethods emptyMethod)) (from T.methods 0 (λ _. noMethod))
-        (from-same (λ j. methodOf (get_or (map rawMethod (replicate maxMethods emptyMethod)) j noRawMethod)) (λ _. noMethod) ms 0 (λ j p q. pending-method j) ∙ rw et)
+        entry-is (map raw_method (replicate max_methods empty_method)) (from T.methods 0 (λ _. no_method))
+        (from-same (λ j. method_of (get_or (map raw_method (replicate max_methods empty_method)) j no_raw_method)) (λ _. no_method) ms 0 (λ j p q. pending-method j) ∙ rw et)
 
-    begun-is : withTypes Tb (Tb.types ++ (pending Tb d t s ∷ [])) ≡ tabled T c (n + 1) b₀
+    begun-is : with_types Tb (Tb.types ++ (pending Tb d t s ∷ [])) ≡ tabled T c (n + 1) b₀
     begun-is =
-        ap (withTypes T)
-        (ap (λ (z : Ty). typesTo ms sh n (types_in b) ++ (z ∷ [])) (sym pending-is)
-        ∙ sym (types-add ms sh (types_in b) n (pendingRecord w) (let l = types-length b in let r = from_start.room in omega arith))
-        ∙ ap (typesTo ms sh (suc n)) (sym stored) ∙ ap (λ (k : ℕ). typesTo ms sh k (types_in b₀)) (sym (add-one n)))
+        ap (with_types T)
+        (ap (λ (z : Ty). types_to ms sh n (types_in b) ++ (z ∷ [])) (sym pending-is)
+        ∙ sym (types-add ms sh (types_in b) n (pending_record w) (let l = types-length b in let r = from_start.room in omega arith))
+        ∙ ap (types_to ms sh (suc n)) (sym stored) ∙ ap (λ (k : ℕ). types_to ms sh k (types_in b₀)) (sym (add-one n)))
 
     -- the model's derivation of a new type is the run of its slots
     abbrev After : Option Row → Option (Table × ℕ)
-    After o = then o λ q. some (withTypes q.0 (set q.0.types n (entry Tb d t s (from ms 0 (fillAt d (methodIn x) (methodIn y) q.1)))), n)
+    After o = then o λ q. some (with_types q.0 (set q.0.types n (entry Tb d t s (from ms 0 (fill_at d (method_in x) (method_in y) q.1)))), n)
 
-    last-after : (o : Option Row) → Last Tb d t s n (then o λ q. some (q.0, from ms 0 (fillAt d (methodIn x) (methodIn y) q.1))) ≡ After o
+    last-after : (o : Option Row) → Last Tb d t s n (then o λ q. some (q.0, from ms 0 (fill_at d (method_in x) (method_in y) q.1))) ≡ After o
     last-after none = refl
     last-after (some q) = refl
 
@@ -343,13 +343,13 @@ module _ {d : Kind} {c : Counts} {n t s : ℕ} {w : Work} {b b₀ : List ℕ} (f
     make-runs f =
         make-new Tb d t s n (from_start.new T) (size-tabled T c n b) from_start.room (derive f)
         ∙ ap (Last Tb d t s n)
-        (ap (λ (u : Table). deriveMethods (derive f) d u (type_at Tb t).methods (type_at Tb s).methods) begun-is
-        ∙ ap (λ (l : List Method). deriveMethods (derive f) d (tabled T c (n + 1) b₀) l (type_at Tb s).methods) (side-methods T c n b t x from_start.left from_start.leftRecord)
-        ∙ ap (λ (l : List Method). deriveMethods (derive f) d (tabled T c (n + 1) b₀) (from ms 0 (methodIn x)) l) (side-methods T c n b s y from_start.right from_start.rightRecord)
-        ∙ methods-run (derive f) d (methodIn x) (methodIn y) ms (tabled T c (n + 1) b₀) zeros few-args (let l = from_start.limits.methods in omega arith) (zero-at slotsSize))
+        (ap (λ (u : Table). derive_methods (derive f) d u (type_at Tb t).methods (type_at Tb s).methods) begun-is
+        ∙ ap (λ (l : List Method). derive_methods (derive f) d (tabled T c (n + 1) b₀) l (type_at Tb s).methods) (side-methods T c n b t x from_start.left from_start.left_record)
+        ∙ ap (λ (l : List Method). derive_methods (derive f) d (tabled T c (n + 1) b₀) (from ms 0 (method_in x)) l) (side-methods T c n b s y from_start.right from_start.right_record)
+        ∙ methods-run (derive f) d (method_in x) (method_in y) ms (tabled T c (n + 1) b₀) zeros few-args (let l = from_start.limits.methods in omega arith) (zero-at slots_size))
         ∙ last-after (Whole d c n w b₀ T f)
 
-    derive-runs : (f : ℕ) → maxTypes ≤ n + f → (o : Table → ℕ → Option Row) → Comes d c n w b₀ o → (g : ℕ) × (derive f Tb d t s ≡ After (o T g))
+    derive-runs : (f : ℕ) → max_types ≤ n + f → (o : Table → ℕ → Option Row) → Comes d c n w b₀ o → (g : ℕ) × (derive f Tb d t s ≡ After (o T g))
     unfolding derive
     derive-runs zero h o all = let l = from_start.room in absurd (omega arith)
     derive-runs (suc f) h o all = (f, make-runs f ∙ ap After (all T et f (omega arith)))
@@ -369,15 +369,15 @@ module _ {d : Kind} {c : Counts} {n t s : ℕ} {w : Work} {b b₀ : List ℕ} (f
   pub new-at : {b₁ b' : List ℕ} {end : ℕ} {ns : List ℕ} {m k : ℕ} → Loop d c n w b₀ b₁ end ns m k → end ≤ k → Stored w ms n ns b₁ b' → Gives d c n t s b b' (At n m)
   new-at {b₁} {b'} {end} {ns} {m} {k} now done put = record {
     keeps = record { long = put-length put.put ∙ now.long; kept = kept; sized = (let l = now.more in omega arith, now.most, λ z p q r. let l = now.more in omega arith) };
-    is = λ T et f h. ap (λ (ts : List Ty). some (withTypes T ts, n)) (types T et) ∙ sym (derive-runs T et f h (λ T f. some (tabled T c m b₁, ns)) (loop-ends now done)).1;
+    is = λ T et f h. ap (λ (ts : List Ty). some (with_types T ts, n)) (types T et) ∙ sym (derive-runs T et f h (λ T f. some (tabled T c m b₁, ns)) (loop-ends now done)).1;
     exact = exact;
     coded = coded;
   }
     where
-      placed : types_in b' ≡ set (types_in b₁) n (rawOf put.z)
+      placed : types_in b' ≡ set (types_in b₁) n (raw_of put.z)
       placed = put-types put.put now.long from_start.room
 
-      above : (i : ℕ) → n < i → i < m → recordAt b' i ≡ recordAt b₁ i
+      above : (i : ℕ) → n < i → i < m → record_at b' i ≡ record_at b₁ i
       above i p q = put-above put.put now.long from_start.room i (let l = now.most in omega arith) p
 
       exact : Exact c n m b'
@@ -389,47 +389,47 @@ module _ {d : Kind} {c : Counts} {n t s : ℕ} {w : Work} {b b₀ : List ℕ} (f
 
       coded : Coded c n b → Coded c m b'
       coded h i l = ⊎_elim
-          (λ (e : i ≡ n). subst (λ (k : ℕ). So (rawTypeFits ms sh k (get_or (types_in b') k noRawType))) (sym e)
-          (subst (λ (r : RawType). So (rawTypeFits ms sh n r))
-          (sym (ap (λ (rs : List RawType). get_or rs n noRawType) placed ∙ get_or-set_same (types_in b₁) n (rawOf put.z) noRawType
+          (λ (e : i ≡ n). subst (λ (k : ℕ). So (raw_type_fits ms sh k (get_or (types_in b') k no_raw_type))) (sym e)
+          (subst (λ (r : RawType). So (raw_type_fits ms sh n r))
+          (sym (ap (λ (rs : List RawType). get_or rs n no_raw_type) placed ∙ get_or-set_same (types_in b₁) n (raw_of put.z) no_raw_type
           (let z = types-length b₁ in let r = from_start.room in omega arith)))
           (finished-coded h put.z put.finished)))
-          (λ (e : i ≡ n → ⊥). subst (λ (r : RawType). So (rawTypeFits ms sh i r))
-          (sym (ap (λ (rs : List RawType). get_or rs i noRawType) placed ∙ get_or-set_other (types_in b₁) n i (rawOf put.z) noRawType e)) (now.coded (start-coded h) i l))
+          (λ (e : i ≡ n → ⊥). subst (λ (r : RawType). So (raw_type_fits ms sh i r))
+          (sym (ap (λ (rs : List RawType). get_or rs i no_raw_type) placed ∙ get_or-set_other (types_in b₁) n i (raw_of put.z) no_raw_type e)) (now.coded (start-coded h) i l))
           (same_or i n)
 
       kept : Kept n b b'
       kept i l = put-below put.put now.long from_start.room i (let r = from_start.room in omega arith) l ∙ now.kept i (omega arith) ∙ start-kept i l
 
-      types : (T : Table) (et : T.methods ≡ ms) → typesTo ms sh m (types_in b') ≡ set (typesTo ms sh m (types_in b₁)) n
-          (entry (tabled T c n b) d t s (from ms 0 (fillAt d (methodIn x) (methodIn y) ns)))
+      types : (T : Table) (et : T.methods ≡ ms) → types_to ms sh m (types_in b') ≡ set (types_to ms sh m (types_in b₁)) n
+          (entry (tabled T c n b) d t s (from ms 0 (fill_at d (method_in x) (method_in y) ns)))
       types T et =
-          ap (typesTo ms sh m) placed ∙ types-put ms sh (types_in b₁) m n (rawOf put.z) now.more (let l = types-length b₁ in let p = now.most in omega arith)
-          ∙ ap (set (typesTo ms sh m (types_in b₁)) n)
+          ap (types_to ms sh m) placed ∙ types-put ms sh (types_in b₁) m n (raw_of put.z) now.more (let l = types-length b₁ in let p = now.most in omega arith)
+          ∙ ap (set (types_to ms sh m (types_in b₁)) n)
           (ap (type_of ms sh n) put.finished.head
-          ∙ entry-is T et (rawOf put.z).methods (from ms 0 (fillAt d (methodIn x) (methodIn y) ns))
-          (from-same (methodIn put.z) (fillAt d (methodIn x) (methodIn y) ns) ms 0
-          (λ j p q. put.finished.filled j (omega arith) ∙ ap (λ (k : Kind). fillAt k (methodIn x) (methodIn y) ns j) from_start.kinds)))
+          ∙ entry-is T et (raw_of put.z).methods (from ms 0 (fill_at d (method_in x) (method_in y) ns))
+          (from-same (method_in put.z) (fill_at d (method_in x) (method_in y) ns) ms 0
+          (λ j p q. put.finished.filled j (omega arith) ∙ ap (λ (k : Kind). fill_at k (method_in x) (method_in y) ns j) from_start.kinds)))
 
 -- What the public functions promise.
 module _ {d : Kind} {t s : ℕ} {b b' : List ℕ} (c : Counts) {r : Derived} (g : Gives d c c.types t s b b' r) where
   abbrev answer : Option (Table × ℕ) → Res (Table × ℕ)
-  answer o = elim o [ none ↦ refuse typesFull | some p ↦ ok p ]
+  answer o = elim o [ none ↦ refuse types_full | some p ↦ ok p ]
 
-  answered : (l : List ℕ) (r : Derived) → derivationIn b' l c r ≡ answer (derivedIn (tableIn b l c) c r b')
-  unfolding tableIn table_of typesTo
+  answered : (l : List ℕ) (r : Derived) → derivation_in b' l c r ≡ answer (derived_in (table_in b l c) c r b')
+  unfolding table_in table_of types_to
   answered l Full = refl
   answered l (At i m) = refl
 
-  derivation-is : (l : List ℕ) → derivationIn b' l c r ≡ derived (tableIn b l c) d t s
-  unfolding derived tableIn table_of typesTo
-  derivation-is l = answered l r ∙ ap answer (g.is (tableIn b l c) refl maxTypes (omega arith))
+  derivation-is : (l : List ℕ) → derivation_in b' l c r ≡ derived (table_in b l c) d t s
+  unfolding derived table_in table_of types_to
+  derivation-is l = answered l r ∙ ap answer (g.is (table_in b l c) refl max_types (omega arith))
 
-  written : (l : List ℕ) (r : Derived) → Sized c.types t s r → ExactTo c c.types b' r → Writes c.types b b' (derivationIn b' l c r)
+  written : (l : List ℕ) (r : Derived) → Sized c.types t s r → ExactTo c c.types b' r → Writes c.types b b' (derivation_in b' l c r)
   written l Full z x = kept-take c.types b b' g.keeps.kept
   written l (At i m) z x =
-      ap (λ (k : ℕ). take (k * typeSize) b') (size_is b' l (withCount c m)) ∙ exact-take c c.types m b b' z.0 g.keeps.kept x
-      ∙ ap (λ (ts : List Ty). take (c.types * typeSize) b ++ flatten (map bytes_of (drop c.types ts))) (sym (types_of b' l (withCount c m)))
+      ap (λ (k : ℕ). take (k * type_size) b') (size_is b' l (with_count c m)) ∙ exact-take c c.types m b b' z.0 g.keeps.kept x
+      ∙ ap (λ (ts : List Ty). take (c.types * type_size) b ++ flatten (map bytes_of (drop c.types ts))) (sym (types_of b' l (with_count c m)))
 
   pub derives : Derives d c t s b b' r
   derives = record {

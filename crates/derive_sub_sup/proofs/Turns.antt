@@ -8,56 +8,56 @@ use native.Mathlib.Omega.{arith}
 use native.Mathlib.Numerals.{add-one}
 use lib.ListN.{length, set, replicate, length-set}
 use Rattle.spec_model.specs.Basics.{then}
-use Rattle.spec_model.specs.Table.{Kind, Table, maxTypes}
-use Rattle.spec_model.specs.Restriction.{argKind, answerKind, Derivation, derive}
+use Rattle.spec_model.specs.Table.{Kind, Table, max_types}
+use Rattle.spec_model.specs.Restriction.{arg_kind, answer_kind, Derivation, derive}
 use Rattle.table_record.specs.declared.Counts.{Counts}
-use Rattle.table_record.specs.Store.{withCount}
+use Rattle.table_record.specs.Store.{with_count}
 use Rattle.table_record.specs.Limits.{Limits}
 use Rattle.derive_type.specs.declared.Work.{Work}
 use Rattle.derive_record.specs.declared.Derived.{Derived}
 use Rattle.derive_record.specs.declared.Derived.TheVariants.{Full, At}
 use Rattle.derive_slots.specs.declared.Slot.{Slot}
 use Rattle.derive_slots.specs.declared.Slot.TheVariants.{Empty, Argument, Answer}
-use Rattle.derive_slots.specs.Slots.{slot_at, Low, methodSlots, slotsSize}
-use Rattle.derive_type.specs.NewType.{leftIn, rightIn, methodIn, kindIn}
+use Rattle.derive_slots.specs.Slots.{slot_at, Low, method_slots, slots_size}
+use Rattle.derive_type.specs.NewType.{left_in, right_in, method_in, kind_in}
 use Rattle.derive_record.specs.Begins.{Below, tabled}
-use Rattle.derive_sub_sup.specs.Link.{Ready, Kept, Sized, Exact, ExactTo, Coded, CodedTo, Gives, derivedIn}
+use Rattle.derive_sub_sup.specs.Link.{Ready, Kept, Sized, Exact, ExactTo, Coded, CodedTo, Gives, derived_in}
 use Rattle.derive_sub_sup.proofs.Bytes.{exact_same}
 use Rattle.table_record.proofs.Lists.{lt-or-ge}
-use Rattle.table_record.specs.Layout.{typesSize}
+use Rattle.table_record.specs.Layout.{types_size}
 use Rattle.derive_type.proofs.Runs.{Row, step, runs}
 
 -- the bytes of the slots before the first turn
 abbrev pub zeros : List ℕ
-zeros = replicate slotsSize 0
+zeros = replicate slots_size 0
 
 -- slot k of the type at work, whose kind is d
-abbrev pub slotIn : Kind → Work → ℕ → Slot
-slotIn d w = slot_at d (methodIn (leftIn w)) (methodIn (rightIn w))
+abbrev pub slot_in : Kind → Work → ℕ → Slot
+slot_in d w = slot_at d (method_in (left_in w)) (method_in (right_in w))
 
 -- The whole run, with the types in signatures derived by the model, in a table that ends with the type at work.
 abbrev pub Whole : Kind → Counts → ℕ → Work → List ℕ → Table → ℕ → Option Row
-Whole d c n w b₀ T f = runs (derive f) d (slotIn d w) (c.methods * methodSlots) 0 (tabled T c (n + 1) b₀) zeros
+Whole d c n w b₀ T f = runs (derive f) d (slot_in d w) (c.methods * method_slots) 0 (tabled T c (n + 1) b₀) zeros
 
 abbrev pub Comes : Kind → Counts → ℕ → Work → List ℕ → (Table → ℕ → Option Row) → Type 0
-Comes d c n w b₀ o = (T : Table) → T.methods ≡ c.methods → (f : ℕ) → maxTypes ≤ n + 1 + f → Whole d c n w b₀ T f ≡ o T f
+Comes d c n w b₀ o = (T : Table) → T.methods ≡ c.methods → (f : ℕ) → max_types ≤ n + 1 + f → Whole d c n w b₀ T f ≡ o T f
 
 pub record Loop (d : Kind) (c : Counts) (n : ℕ) (w : Work) (b₀ b : List ℕ) (end : ℕ) (ns : List ℕ) (m k : ℕ) : Type 0 where
-  pub edge : end ≡ c.methods * methodSlots
-  pub limits : Limits (withCount c n)
-  pub kinds : kindIn w ≡ d
-  pub room : n < maxTypes
-  pub long : length b ≡ typesSize
-  pub wide : length ns ≡ slotsSize
+  pub edge : end ≡ c.methods * method_slots
+  pub limits : Limits (with_count c n)
+  pub kinds : kind_in w ≡ d
+  pub room : n < max_types
+  pub long : length b ≡ types_size
+  pub wide : length ns ≡ slots_size
   pub more : n < m
-  pub most : m ≤ maxTypes
+  pub most : m ≤ max_types
   pub kept : Kept (n + 1) b₀ b
   pub exact : Exact c (n + 1) m b
   pub coded : Coded c (n + 1) b₀ → Coded c m b
-  pub same : Comes d c n w b₀ (λ T f. runs (derive f) d (slotIn d w) (end - k) k (tabled T c m b) ns)
+  pub same : Comes d c n w b₀ (λ T f. runs (derive f) d (slot_in d w) (end - k) k (tabled T c m b) ns)
 
-pub loop-starts : (d : Kind) (c : Counts) (n : ℕ) (w : Work) (b : List ℕ) → Limits (withCount c n) → kindIn w ≡ d → n < maxTypes → length b ≡ typesSize
-    → Loop d c n w b b (c.methods * methodSlots) zeros (n + 1) 0
+pub loop-starts : (d : Kind) (c : Counts) (n : ℕ) (w : Work) (b : List ℕ) → Limits (with_count c n) → kind_in w ≡ d → n < max_types → length b ≡ types_size
+    → Loop d c n w b b (c.methods * method_slots) zeros (n + 1) 0
 loop-starts d c n w b limits kinds room long = record {
   edge = refl;
   limits = limits;
@@ -70,7 +70,7 @@ loop-starts d c n w b limits kinds room long = record {
   kept = λ i l. refl;
   exact = λ i p q. absurd (omega arith);
   coded = λ h. h;
-  same = λ T e f h. let l : c.methods * methodSlots - 0 ≡ c.methods * methodSlots = omega arith in rw l;
+  same = λ T e f h. let l : c.methods * method_slots - 0 ≡ c.methods * method_slots = omega arith in rw l;
 }
 
 -- what is left at slot k, when it is known what that slot asks for
@@ -85,12 +85,12 @@ run_none : (rec : Derivation) (d : Kind) (f : ℕ → Slot) (n k : ℕ) (t : Tab
 unfolding runs
 run_none rec d f n k t ns h = let l : n - k ≡ 0 = omega arith in rw l
 
-sized-at : (n t s i m : ℕ) (g : Derived) → g ≡ At i m → Sized n t s g → (n ≤ m) × (m ≤ maxTypes) × Below t s m i
+sized-at : (n t s i m : ℕ) (g : Derived) → g ≡ At i m → Sized n t s g → (n ≤ m) × (m ≤ max_types) × Below t s m i
 sized-at n t s i m g e h = subst (Sized n t s) e h
 
 module _ {d : Kind} {c : Counts} {n : ℕ} {w : Work} {b₀ b : List ℕ} {end : ℕ} {ns : List ℕ} {m k : ℕ} (now : Loop d c n w b₀ b end ns m k) where
   pub loop-ends : end ≤ k → Comes d c n w b₀ (λ T f. some (tabled T c m b, ns))
-  loop-ends h T e f p = now.same T e f p ∙ run_none (derive f) d (slotIn d w) end k (tabled T c m b) ns h
+  loop-ends h T e f p = now.same T e f p ∙ run_none (derive f) d (slot_in d w) end k (tabled T c m b) ns h
 
   -- what a derivation for a slot asks
   ready : (l r : ℕ) → l < 256 → r < 256 → Ready c m l r b
@@ -105,18 +105,18 @@ module _ {d : Kind} {c : Counts} {n : ℕ} {w : Work} {b₀ b : List ℕ} {end :
 pub record Turn (d : Kind) (c : Counts) (n : ℕ) (w : Work) (b₀ b : List ℕ) (end : ℕ) (ns : List ℕ) (m k : ℕ) (slot : Slot) : Type 0 where
   pub now : Loop d c n w b₀ b end ns m k
   pub test : k < end
-  pub told : slot ≡ slotIn (kindIn w) w k
+  pub told : slot ≡ slot_in (kind_in w) w k
   pub low : Low slot
 
 module _ {d : Kind} {c : Counts} {n : ℕ} {w : Work} {b₀ b : List ℕ} {end : ℕ} {ns : List ℕ} {m k : ℕ} {slot : Slot} (turn : Turn d c n w b₀ b end ns m k slot) where
   abbrev S : ℕ → Slot
-  S = slotIn d w
+  S = slot_in d w
 
   abbrev now : Loop d c n w b₀ b end ns m k
   now = turn.now
 
   is : slot ≡ S k
-  is = turn.told ∙ ap (λ (e : Kind). slotIn e w k) now.kinds
+  is = turn.told ∙ ap (λ (e : Kind). slot_in e w k) now.kinds
 
   pub turn-empty : slot ≡ Empty → Loop d c n w b₀ b end ns m (k + 1)
   turn-empty e = record {
@@ -140,7 +140,7 @@ module _ {d : Kind} {c : Counts} {n : ℕ} {w : Work} {b₀ b : List ℕ} {end :
     abbrev after : ℕ → Table × ℕ → Option Row
     after f p = runs (derive f) d S (end - (k + 1)) (k + 1) p.0 (set ns k (byte p.1))
 
-    stepped : Comes d c n w b₀ (λ T f. then (derivedIn T c g b₁) (after f))
+    stepped : Comes d c n w b₀ (λ T f. then (derived_in T c g b₁) (after f))
     stepped T et f h =
         now.same T et f h ∙ run-first (derive f) d S end k (tabled T c m b) ns slot turn.test is
         ∙ ap (λ (o : Option Row). then o λ q. runs (derive f) d S (end - (k + 1)) (k + 1) q.0 q.1) (by (derive f) (tabled T c m b))
@@ -152,7 +152,7 @@ module _ {d : Kind} {c : Counts} {n : ℕ} {w : Work} {b₀ b : List ℕ} {end :
         flat (some p) = refl
 
     full_by : g ≡ Full → Comes d c n w b₀ (λ T f. none)
-    full_by eg T et f h = stepped T et f h ∙ ap (λ (o : Derived). then (derivedIn T c o b₁) (after f)) eg
+    full_by eg T et f h = stepped T et f h ∙ ap (λ (o : Derived). then (derived_in T c o b₁) (after f)) eg
 
     turn_by : {i m₁ v : ℕ} → g ≡ At i m₁ → v ≡ byte i → Loop d c n w b₀ b₁ end (set ns k v) m₁ (k + 1)
     turn_by {i} {m₁} {v} eg ev = let z = sized-at m l r i m₁ g eg does.keeps.sized in
@@ -171,7 +171,7 @@ module _ {d : Kind} {c : Counts} {n : ℕ} {w : Work} {b₀ b : List ℕ} {end :
               (λ (l : m ≤ j). subst (ExactTo c m b₁) eg does.exact j l q)
               (lt-or-ge j m);
           coded = λ h. subst (CodedTo c b₁) eg (does.coded (now.coded h));
-          same = λ T et f h. stepped T et f h ∙ ap (λ (o : Derived). then (derivedIn T c o b₁) (after f)) eg ∙ ap
+          same = λ T et f h. stepped T et f h ∙ ap (λ (o : Derived). then (derived_in T c o b₁) (after f)) eg ∙ ap
               (λ (v : ℕ). runs (derive f) d S (end - (k + 1)) (k + 1) (tabled T c m₁ b₁) (set ns k v)) (sym ev);
         }
 
@@ -180,32 +180,32 @@ module _ {d : Kind} {c : Counts} {n : ℕ} {w : Work} {b₀ b : List ℕ} {end :
       pub argument-ready : Ready c m l r b
       argument-ready = let p = subst Low e turn.low in ready now l r p.0 p.1
 
-      module _ {g : Derived} {b₁ : List ℕ} (does : Gives (argKind d) c m l r b b₁ g) where
-        by-argument : (rec : Derivation) (t : Table) → step rec d slot k t ns ≡ then (rec t (argKind d) l r) λ p. some (p.0, set ns k p.1)
+      module _ {g : Derived} {b₁ : List ℕ} (does : Gives (arg_kind d) c m l r b b₁ g) where
+        by-argument : (rec : Derivation) (t : Table) → step rec d slot k t ns ≡ then (rec t (arg_kind d) l r) λ p. some (p.0, set ns k p.1)
         by-argument rec t = ap (λ (u : Slot). step rec d u k t ns) e
 
         pub argument-full : g ≡ Full → Comes d c n w b₀ (λ T f. none)
-        argument-full = full_by (argKind d) (λ i. i) by-argument does
+        argument-full = full_by (arg_kind d) (λ i. i) by-argument does
 
         pub argument-low : {i m₁ : ℕ} → g ≡ At i m₁ → i < 256
         argument-low {i} {m₁} eg = let z = sized-at m l r i m₁ g eg does.keeps.sized in let p = subst Low e turn.low in z.2 256 (let q = z.1 in omega arith) p.0 p.1
 
         pub argument-turn : {i m₁ v : ℕ} → g ≡ At i m₁ → v ≡ i → Loop d c n w b₀ b₁ end (set ns k v) m₁ (k + 1)
-        argument-turn = turn_by (argKind d) (λ i. i) by-argument does
+        argument-turn = turn_by (arg_kind d) (λ i. i) by-argument does
 
     module _ (e : slot ≡ Answer l r) where
       pub answer-ready : Ready c m l r b
       answer-ready = let p = subst Low e turn.low in ready now l r (omega arith) (omega arith)
 
-      module _ {g : Derived} {b₁ : List ℕ} (does : Gives (answerKind d) c m l r b b₁ g) where
-        by_answer : (rec : Derivation) (t : Table) → step rec d slot k t ns ≡ then (rec t (answerKind d) l r) λ p. some (p.0, set ns k (suc p.1))
+      module _ {g : Derived} {b₁ : List ℕ} (does : Gives (answer_kind d) c m l r b b₁ g) where
+        by_answer : (rec : Derivation) (t : Table) → step rec d slot k t ns ≡ then (rec t (answer_kind d) l r) λ p. some (p.0, set ns k (suc p.1))
         by_answer rec t = ap (λ (u : Slot). step rec d u k t ns) e
 
         pub answer-full : g ≡ Full → Comes d c n w b₀ (λ T f. none)
-        answer-full = full_by (answerKind d) suc by_answer does
+        answer-full = full_by (answer_kind d) suc by_answer does
 
         pub answer-low : {i m₁ : ℕ} → g ≡ At i m₁ → i < 255
         answer-low {i} {m₁} eg = let z = sized-at m l r i m₁ g eg does.keeps.sized in let p = subst Low e turn.low in z.2 255 (let q = z.1 in omega arith) p.0 p.1
 
         pub answer-turn : {i m₁ v : ℕ} → g ≡ At i m₁ → v ≡ i + 1 → Loop d c n w b₀ b₁ end (set ns k v) m₁ (k + 1)
-        answer-turn {i} eg ev = turn_by (answerKind d) suc by_answer does eg (ev ∙ add-one i)
+        answer-turn {i} eg ev = turn_by (answer_kind d) suc by_answer does eg (ev ∙ add-one i)

@@ -3,45 +3,45 @@ use Rattle.std.specs.Prelude.{◌≡◌, List, ℕ, ◌+◌, ◌*◌, ◌≤◌,
 use Rattle.std.proofs.Math.Bool.{So}
 use Rattle.std.proofs.Math.Option.{Option, none, some}
 use Rattle.spec_model.specs.Basics.{Res, refuse, ok}
-use Rattle.spec_model.specs.Table.{Kind, Table, maxTypes}
+use Rattle.spec_model.specs.Table.{Kind, Table, max_types}
 use Rattle.spec_model.specs.Restriction.{derive, derived}
-use Rattle.spec_model.specs.Check.{noRawType, type_of, rawTypeFits, codesFit}
-use Rattle.spec_model.specs.Refusals.{typesFull}
+use Rattle.spec_model.specs.Check.{no_raw_type, type_of, raw_type_fits, codes_fit}
+use Rattle.spec_model.specs.Refusals.{types_full}
 use Rattle.table_record.specs.declared.Counts.{Counts}
-use Rattle.table_record.specs.Store.{types_in, rawTable, tableIn, withCount}
+use Rattle.table_record.specs.Store.{types_in, raw_table, table_in, with_count}
 use Rattle.table_record.specs.Records.{bytes_of}
 use Rattle.table_record.specs.Limits.{Limits}
-use Rattle.table_record.specs.Layout.{typeSize, typesSize}
+use Rattle.table_record.specs.Layout.{type_size, types_size}
 use Rattle.derive_record.specs.declared.Derived.{Derived}
 use Rattle.derive_record.specs.declared.Derived.TheVariants.{Full, At}
 use Rattle.derive_record.specs.Begins.{Below, tabled}
 pub use Rattle.derive_sub_sup.specs.Bytes.{Writes}
 
 -- The 128 bytes of type i. Those below the count n stay as they are, also where the table is full.
-abbrev pub recordAt : List ℕ → ℕ → List ℕ
-recordAt b i = take typeSize (drop (i * typeSize) b)
+abbrev pub record_at : List ℕ → ℕ → List ℕ
+record_at b i = take type_size (drop (i * type_size) b)
 
 abbrev pub Kept : ℕ → List ℕ → List ℕ → Type 0
-Kept n b b' = (i : ℕ) → i < n → recordAt b' i ≡ recordAt b i
+Kept n b b' = (i : ℕ) → i < n → record_at b' i ≡ record_at b i
 
 -- Each type from n to m is stored as the record that stands for it.
 abbrev pub ExactAt : Counts → List ℕ → ℕ → Type 0
-ExactAt c b i = recordAt b i ≡ bytes_of (type_of c.methods c.sheet i (get_or (types_in b) i noRawType))
+ExactAt c b i = record_at b i ≡ bytes_of (type_of c.methods c.sheet i (get_or (types_in b) i no_raw_type))
 
 abbrev pub Exact : Counts → ℕ → ℕ → List ℕ → Type 0
 Exact c n m b = (i : ℕ) → n ≤ i → i < m → ExactAt c b i
 
 -- The public result: a full table is refused with 11; else the number, and the table with so many types.
-abbrev pub derivationIn : List ℕ → List ℕ → Counts → Derived → Res (Table × ℕ)
-derivationIn b l c Full = refuse typesFull
-derivationIn b l c (At i m) = ok (tableIn b l (withCount c m), i)
+abbrev pub derivation_in : List ℕ → List ℕ → Counts → Derived → Res (Table × ℕ)
+derivation_in b l c Full = refuse types_full
+derivation_in b l c (At i m) = ok (table_in b l (with_count c m), i)
 
 -- What a derivation asks: counts within their limits, n being the types so far, and numbers that a byte can hold.
 pub record Ready (c : Counts) (n t s : ℕ) (b : List ℕ) : Type 0 where
-  pub limits : Limits (withCount c n)
+  pub limits : Limits (with_count c n)
   pub left : t < 256
   pub right : s < 256
-  pub long : length b ≡ typesSize
+  pub long : length b ≡ types_size
 
 -- the same up to the new count
 abbrev pub ExactTo : Counts → ℕ → List ℕ → Derived → Type 0
@@ -51,16 +51,16 @@ ExactTo c n b (At i m) = Exact c n m b
 -- the count grows, within its limit
 abbrev pub Sized : ℕ → ℕ → ℕ → Derived → Type 0
 Sized n t s Full = Unit {0}
-Sized n t s (At i m) = (n ≤ m) × (m ≤ maxTypes) × Below t s m i
+Sized n t s (At i m) = (n ≤ m) × (m ≤ max_types) × Below t s m i
 
 pub record Leaves (n t s : ℕ) (b b' : List ℕ) (r : Derived) : Type 0 where
-  pub long : length b' ≡ typesSize
+  pub long : length b' ≡ types_size
   pub kept : Kept n b b'
   pub sized : Sized n t s r
 
 -- Every code of the first n records names something, as the check of a table handed in asks; and so it is up to the new count.
 abbrev pub Coded : Counts → ℕ → List ℕ → Type 0
-Coded c n b = (i : ℕ) → i < n → So (rawTypeFits c.methods c.sheet i (get_or (types_in b) i noRawType))
+Coded c n b = (i : ℕ) → i < n → So (raw_type_fits c.methods c.sheet i (get_or (types_in b) i no_raw_type))
 
 abbrev pub CodedTo : Counts → List ℕ → Derived → Type 0
 CodedTo c b Full = Unit {0}
@@ -69,28 +69,28 @@ CodedTo c b (At i m) = Coded c m b
 -- The same of the whole table: where its codes name something before, they do after, whatever its links are.
 abbrev pub CodesIn : List ℕ → List ℕ → Counts → Derived → Type 0
 CodesIn b l c Full = Unit {0}
-CodesIn b l c (At i m) = So (codesFit (rawTable b l (withCount c m)))
+CodesIn b l c (At i m) = So (codes_fit (raw_table b l (with_count c m)))
 
 abbrev pub CodesStay : Counts → List ℕ → List ℕ → Derived → Type 0
-CodesStay c b b' r = (l : List ℕ) → So (codesFit (rawTable b l c)) → CodesIn b' l c r
+CodesStay c b b' r = (l : List ℕ) → So (codes_fit (raw_table b l c)) → CodesIn b' l c r
 
 -- What the public functions promise: the result is the model's, whatever the links are; every counted byte; what else the caller goes on with; and that codes
 -- go on naming something.
 pub record Derives (d : Kind) (c : Counts) (t s : ℕ) (b b' : List ℕ) (r : Derived) : Type 0 where
-  pub is : (l : List ℕ) → derivationIn b' l c r ≡ derived (tableIn b l c) d t s
-  pub writes : (l : List ℕ) → Writes c.types b b' (derived (tableIn b l c) d t s)
+  pub is : (l : List ℕ) → derivation_in b' l c r ≡ derived (table_in b l c) d t s
+  pub writes : (l : List ℕ) → Writes c.types b b' (derived (table_in b l c) d t s)
   pub keeps : Leaves c.types t s b b' r
   pub exact : ExactTo c c.types b' r
   pub codes : CodesStay c b b' r
 
 -- What the result and the bytes left say of the table whose types are the first n of the bytes.
-abbrev pub derivedIn : Table → Counts → Derived → List ℕ → Option (Table × ℕ)
-derivedIn t c Full b = none
-derivedIn t c (At i m) b = some (tabled t c m b, i)
+abbrev pub derived_in : Table → Counts → Derived → List ℕ → Option (Table × ℕ)
+derived_in t c Full b = none
+derived_in t c (At i m) b = some (tabled t c m b, i)
 
 -- The contract of the recursion: the result is the model's, whatever else there is in the table, and for every fuel of at least the free numbers.
 pub record Gives (d : Kind) (c : Counts) (n t s : ℕ) (b b' : List ℕ) (r : Derived) : Type 0 where
   pub keeps : Leaves n t s b b' r
-  pub is : (T : Table) → T.methods ≡ c.methods → (f : ℕ) → maxTypes ≤ n + f → derivedIn T c r b' ≡ derive f (tabled T c n b) d t s
+  pub is : (T : Table) → T.methods ≡ c.methods → (f : ℕ) → max_types ≤ n + f → derived_in T c r b' ≡ derive f (tabled T c n b) d t s
   pub exact : ExactTo c n b' r
   pub coded : Coded c n b → CodedTo c b' r

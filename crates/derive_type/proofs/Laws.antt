@@ -9,24 +9,24 @@ use lib.Dec.{leb, ltb}
 use lib.ListN.{length, get_or, set, take, replicate, length-set, length-map, get_or-map}
 use lib.Seq.{take-nil, get_or-set_other}
 use borrow.Author.Tests.{le-ltb}
-use Rattle.spec_model.specs.Table.{Kind, permit, maxArguments, maxMethods}
+use Rattle.spec_model.specs.Table.{Kind, permit, max_arguments, max_methods}
 use Rattle.spec_model.specs.Table as model
 use Rattle.spec_model.specs.Restriction.{restricted}
-use Rattle.spec_model.specs.Check.{RawMethod, RawType, noRawMethod, state_of, kind_of, methodOf}
+use Rattle.spec_model.specs.Check.{RawMethod, RawType, no_raw_method, state_of, kind_of, method_of}
 use Rattle.spec_model.proofs.Rules.{both, second, imply, applied}
 use Rattle.spec_model.proofs.Tests.{so-ltb, leb-so, so-leb}
-use Rattle.spec_model.specs.Records.{argumentSlots}
+use Rattle.spec_model.specs.Records.{argument_slots}
 use Rattle.table_record.specs.declared.Method.{Method}
 use Rattle.table_record.specs.declared.TypeRec.{TypeRec}
-use Rattle.table_record.specs.Store.{rawMethod, rawOf, emptyMethod, blankMethod, MethodExact, TypeExact}
+use Rattle.table_record.specs.Store.{raw_method, raw_of, empty_method, blank_method, MethodExact, TypeExact}
 use Rattle.table_record.proofs.Lists.{set_next}
 use Rattle.table_record.proofs.Laws.{absent, four}
 use Rattle.law_table.proofs.Exact.{unsigned-exact, signed-exact, derived-key, ref-exact}
-use Rattle.derive_slots.specs.Slots.{methodSlots}
+use Rattle.derive_slots.specs.Slots.{method_slots}
 use Rattle.derive_slots.proofs.Laws.{stays, left-on, right-on}
 use Rattle.derive_type.specs.declared.Work.{Work}
-use Rattle.derive_type.specs.NewType.{shared, fill, fillAt, leftIn, rightIn, methodIn, rawIn, MethodCoded, bareMethod, slotByte, signedMethod}
-use Rattle.derive_type.specs.NewType.{kindIn, catIn, mainOf, newRecord, Finished}
+use Rattle.derive_type.specs.NewType.{shared, fill, fill_at, left_in, right_in, method_in, raw_in, MethodCoded, bare_method, slot_byte, signed_method}
+use Rattle.derive_type.specs.NewType.{kind_in, cat_in, main_of, new_record, Finished}
 
 -- how many arguments are shared
 take-shared : (c e : ℕ) (ps qs ns : List ℕ) → length ns ≤ length ps → length ns ≤ length qs → take (min c e) ns ≡ take (shared (take c ps) (take e qs)) ns
@@ -46,7 +46,7 @@ take-capped zero (n ∷ ns) = rw (zero-min (suc (length ns)))
 take-capped (suc k) (n ∷ ns) = rw (suc-min-suc k (length ns)) (ap (λ (l : List ℕ). n ∷ l) (take-capped k ns))
 
 -- slots past the count don't matter
-take-slots : (n a b c d : ℕ) → n ≤ argumentSlots → let l : List ℕ = a ∷ b ∷ c ∷ d ∷ [] in take n (slotByte n l 0 ∷ slotByte n l 1 ∷ slotByte n l 2 ∷ slotByte n l 3 ∷ []) ≡ take n l
+take-slots : (n a b c d : ℕ) → n ≤ argument_slots → let l : List ℕ = a ∷ b ∷ c ∷ d ∷ [] in take n (slot_byte n l 0 ∷ slot_byte n l 1 ∷ slot_byte n l 2 ∷ slot_byte n l 3 ∷ []) ≡ take n l
 take-slots zero a b c d h = refl
 take-slots (suc zero) a b c d h = refl
 take-slots (suc (suc zero)) a b c d h = refl
@@ -54,7 +54,7 @@ take-slots (suc (suc (suc zero))) a b c d h = refl
 take-slots (suc (suc (suc (suc zero)))) a b c d h = refl
 take-slots (suc (suc (suc (suc (suc n))))) a b c d h = absurd (omega arith)
 
-slots-zero : (n : ℕ) (l : List ℕ) (k : ℕ) → n ≤ k → get_or (slotByte n l 0 ∷ slotByte n l 1 ∷ slotByte n l 2 ∷ slotByte n l 3 ∷ []) k 0 ≡ 0
+slots-zero : (n : ℕ) (l : List ℕ) (k : ℕ) → n ≤ k → get_or (slot_byte n l 0 ∷ slot_byte n l 1 ∷ slot_byte n l 2 ∷ slot_byte n l 3 ∷ []) k 0 ≡ 0
 slots-zero n l zero h = rw (le-ltb 0 n h)
 slots-zero n l (suc zero) h = rw (le-ltb 1 n h)
 slots-zero n l (suc (suc zero)) h = rw (le-ltb 2 n h)
@@ -65,129 +65,129 @@ slots-zero n l (suc (suc (suc (suc k)))) h = refl
 -- side's do.
 module _ (d : Kind) (p q : RawMethod) where
   abbrev count : ℕ
-  count = min (min p.count q.count) argumentSlots
+  count = min (min p.count q.count) argument_slots
 
-  pub shared-low : count ≤ argumentSlots
-  shared-low = min-le_right (min p.count q.count) argumentSlots
+  pub shared-low : count ≤ argument_slots
+  shared-low = min-le_right (min p.count q.count) argument_slots
 
   module _ (st : ℕ) (es : state_of st ≡ restricted d (state_of p.state) (state_of q.state)) (low : st < 4) (args : List ℕ) (a : ℕ) where
     abbrev pub Made : RawMethod → Type 0
-    Made m = (methodOf m ≡ fill d (methodOf p) (methodOf q) args a) × (MethodExact m × (MethodCoded p → MethodCoded m))
+    Made m = (method_of m ≡ fill d (method_of p) (method_of q) args a) × (MethodExact m × (MethodCoded p → MethodCoded m))
 
-    pub bare-made : permit (state_of st) ≡ false → Made (bareMethod st)
+    pub bare-made : permit (state_of st) ≡ false → Made (bare_method st)
     bare-made e = (rw (e, es, sym (ap permit es) ∙ e), (unsigned-exact st low e, λ h. both (so-ltb low) (imply (permit (state_of st)) true (λ _. refl))))
 
-    pub signed-made : permit (state_of st) ≡ true → length args ≡ argumentSlots → length p.args ≡ argumentSlots → length q.args ≡ argumentSlots → Made (signedMethod st count args a)
+    pub signed-made : permit (state_of st) ≡ true → length args ≡ argument_slots → length p.args ≡ argument_slots → length q.args ≡ argument_slots → Made (signed_method st count args a)
     signed-made e l lp lq = (
       rw (e, es, s, left-on d p q s, right-on d p q s, same),
       (
-        signed-exact (signedMethod st count args a) low e shared-low refl (slots-zero count args),
-        λ h. both (so-ltb low) (imply (permit (state_of st)) (leb count maxArguments) (λ _. so-leb (few h))),
+        signed-exact (signed_method st count args a) low e shared-low refl (slots-zero count args),
+        λ h. both (so-ltb low) (imply (permit (state_of st)) (leb count max_arguments) (λ _. so-leb (few h))),
       ),
     )
       where
         s : stays d p q ≡ true
         s = sym (ap permit es) ∙ e
 
-        same : take count (slotByte count args 0 ∷ slotByte count args 1 ∷ slotByte count args 2 ∷ slotByte count args 3 ∷ []) ≡ take
+        same : take count (slot_byte count args 0 ∷ slot_byte count args 1 ∷ slot_byte count args 2 ∷ slot_byte count args 3 ∷ []) ≡ take
             (shared (take p.count p.args) (take q.count q.args)) args
         same =
             take-slots count (get_or args 0 0) (get_or args 1 0) (get_or args 2 0) (get_or args 3 0) shared-low ∙ ap (take count) (four args l)
             ∙ ap (λ (n : ℕ). take (min (min p.count q.count) n) args) (sym l) ∙ take-capped (min p.count q.count) args
             ∙ take-shared p.count q.count p.args q.args args (omega arith) (omega arith)
 
-        few : MethodCoded p → count ≤ maxArguments
+        few : MethodCoded p → count ≤ max_arguments
         few h =
-            let w : p.count ≤ maxArguments = leb-so (applied (second (ltb p.state 4) _ h) (left-on d p q s)) in
-            let u = min-le_left (min p.count q.count) argumentSlots in
+            let w : p.count ≤ max_arguments = leb-so (applied (second (ltb p.state 4) _ h) (left-on d p q s)) in
+            let u = min-le_left (min p.count q.count) argument_slots in
             let v = min-le_left p.count q.count in omega arith
 
 -- A method's bytes, and a type's head, put together from their parts.
-pub signed-bytes : (st count : ℕ) (args : List ℕ) (a : ℕ) {n x₀ x₁ x₂ x₃ : ℕ} → n ≡ count → x₀ ≡ slotByte count args 0 → x₁ ≡ slotByte count args 1
-    → x₂ ≡ slotByte count args 2
-    → x₃ ≡ slotByte count args 3
-    → ◌≡◌ {A = RawMethod} (record { state = st; count = n; args = x₀ ∷ x₁ ∷ x₂ ∷ x₃ ∷ []; answer = a }) (signedMethod st count args a)
+pub signed-bytes : (st count : ℕ) (args : List ℕ) (a : ℕ) {n x₀ x₁ x₂ x₃ : ℕ} → n ≡ count → x₀ ≡ slot_byte count args 0 → x₁ ≡ slot_byte count args 1
+    → x₂ ≡ slot_byte count args 2
+    → x₃ ≡ slot_byte count args 3
+    → ◌≡◌ {A = RawMethod} (record { state = st; count = n; args = x₀ ∷ x₁ ∷ x₂ ∷ x₃ ∷ []; answer = a }) (signed_method st count args a)
 signed-bytes st count args a e e₀ e₁ e₂ e₃ = rw (e, e₀, e₁, e₂, e₃)
 
-pub head-made : (w : Work) (ms : List RawMethod) {cat left right : ℕ} → cat ≡ catIn w → left ≡ w.key.left → right ≡ w.key.right
-    → ◌≡◌ {A = RawType} (record { rep = 0; cat = cat; own_val = 0; kind = w.key.kind; left = left; right = right; methods = ms }) (newRecord w ms)
+pub head-made : (w : Work) (ms : List RawMethod) {cat left right : ℕ} → cat ≡ cat_in w → left ≡ w.key.left → right ≡ w.key.right
+    → ◌≡◌ {A = RawType} (record { rep = 0; cat = cat; own = 0; kind = w.key.kind; left = left; right = right; methods = ms }) (new_record w ms)
 head-made w ms e l r = rw (e, l, r)
 
-pub main-right : (w : Work) → w.key.kind ≡ 1 → w.righthead.cat ≡ catIn w
-main-right w e = ap (λ (k : ℕ). (mainOf (kind_of k) (leftIn w) (rightIn w)).head.cat) (sym e)
+pub main-right : (w : Work) → w.key.kind ≡ 1 → w.righthead.cat ≡ cat_in w
+main-right w e = ap (λ (k : ℕ). (main_of (kind_of k) (left_in w) (right_in w)).head.cat) (sym e)
 
-pub main-left : (w : Work) → (w.key.kind ≡ 1 → ⊥) → w.lefthead.cat ≡ catIn w
+pub main-left : (w : Work) → (w.key.kind ≡ 1 → ⊥) → w.lefthead.cat ≡ cat_in w
 main-left w n = go w.key.kind n
   where
-    go : (k : ℕ) → (k ≡ 1 → ⊥) → w.lefthead.cat ≡ (mainOf (kind_of k) (leftIn w) (rightIn w)).head.cat
+    go : (k : ℕ) → (k ≡ 1 → ⊥) → w.lefthead.cat ≡ (main_of (kind_of k) (left_in w) (right_in w)).head.cat
     go zero n = refl
     go (suc zero) n = absurd (n refl)
     go (suc (suc k)) n = refl
 
 -- Methods of the code, as records.
-pub raw-methods : (ms : List Method) (j : ℕ) → rawMethod (get_or ms j absent) ≡ get_or (map rawMethod ms) j noRawMethod
-raw-methods ms j = sym (get_or-map rawMethod ms j absent)
+pub raw-methods : (ms : List Method) (j : ℕ) → raw_method (get_or ms j absent) ≡ get_or (map raw_method ms) j no_raw_method
+raw-methods ms j = sym (get_or-map raw_method ms j absent)
 
-filled-here : (d : Kind) (x y : TypeRec) (ns : List ℕ) (j : ℕ) (p q m : Method) → rawMethod p ≡ rawIn x j → rawMethod q ≡ rawIn y j
-    → methodOf (rawMethod m) ≡ fill d (methodOf (rawMethod p)) (methodOf (rawMethod q))
-    (get_or ns (j * methodSlots) 0 ∷ get_or ns (j * methodSlots + 1) 0 ∷ get_or ns (j * methodSlots + 2) 0 ∷ get_or ns (j * methodSlots + 3) 0 ∷ [])
-    (get_or ns (j * methodSlots + argumentSlots) 0)
-    → methodOf (rawMethod m) ≡ fillAt d (methodIn x) (methodIn y) ns j
+filled-here : (d : Kind) (x y : TypeRec) (ns : List ℕ) (j : ℕ) (p q m : Method) → raw_method p ≡ raw_in x j → raw_method q ≡ raw_in y j
+    → method_of (raw_method m) ≡ fill d (method_of (raw_method p)) (method_of (raw_method q))
+    (get_or ns (j * method_slots) 0 ∷ get_or ns (j * method_slots + 1) 0 ∷ get_or ns (j * method_slots + 2) 0 ∷ get_or ns (j * method_slots + 3) 0 ∷ [])
+    (get_or ns (j * method_slots + argument_slots) 0)
+    → method_of (raw_method m) ≡ fill_at d (method_in x) (method_in y) ns j
 filled-here d x y ns j p q m ep eq em =
-    em ∙ ap (λ (z : model.Method). fill d z (methodOf (rawMethod q)) (get_or ns (j * methodSlots) 0 ∷ get_or ns (j * methodSlots + 1) 0 ∷ get_or ns (j * methodSlots + 2) 0 ∷ get_or ns
-    (j * methodSlots + 3) 0 ∷ [])
-    (get_or ns (j * methodSlots + argumentSlots) 0)) (ap methodOf ep)
-    ∙ ap (λ (z : model.Method). fill d (methodIn x j) z (get_or ns (j * methodSlots) 0 ∷ get_or ns (j * methodSlots + 1) 0 ∷ get_or ns (j * methodSlots + 2) 0 ∷ get_or ns (j * methodSlots + 3)
-    0 ∷ []) (get_or ns (j * methodSlots + argumentSlots) 0))
-    (ap methodOf eq)
+    em ∙ ap (λ (z : model.Method). fill d z (method_of (raw_method q)) (get_or ns (j * method_slots) 0 ∷ get_or ns (j * method_slots + 1) 0 ∷ get_or ns (j * method_slots + 2) 0 ∷ get_or ns
+    (j * method_slots + 3) 0 ∷ [])
+    (get_or ns (j * method_slots + argument_slots) 0)) (ap method_of ep)
+    ∙ ap (λ (z : model.Method). fill d (method_in x j) z (get_or ns (j * method_slots) 0 ∷ get_or ns (j * method_slots + 1) 0 ∷ get_or ns (j * method_slots + 2) 0 ∷ get_or ns (j * method_slots + 3)
+    0 ∷ []) (get_or ns (j * method_slots + argument_slots) 0))
+    (ap method_of eq)
 
 -- The loop over the methods: those before j are made from their slots, the others are blank.
 module _ (w : Work) (ns : List ℕ) where
   abbrev Well : ℕ → Method → Type 0
-  Well j m = (methodOf (rawMethod m) ≡ fillAt (kindIn w) (methodIn (leftIn w)) (methodIn (rightIn w)) ns j) ×
-      (MethodExact (rawMethod m) × (MethodCoded (rawIn (leftIn w) j) → MethodCoded (rawMethod m)))
+  Well j m = (method_of (raw_method m) ≡ fill_at (kind_in w) (method_in (left_in w)) (method_in (right_in w)) ns j) ×
+      (MethodExact (raw_method m) × (MethodCoded (raw_in (left_in w) j) → MethodCoded (raw_method m)))
 
   pub record Filling (ms : ℕ) (all : List Method) (j : ℕ) : Type 0 where
     pub low : j ≤ ms
-    pub long : length all ≡ maxMethods
+    pub long : length all ≡ max_methods
     pub made : (i : ℕ) → i < j → Well i (get_or all i absent)
-    pub rest : (i : ℕ) → j ≤ i → i < maxMethods → rawMethod (get_or all i absent) ≡ blankMethod
+    pub rest : (i : ℕ) → j ≤ i → i < max_methods → raw_method (get_or all i absent) ≡ blank_method
 
-  pub filling-starts : (ms : ℕ) (m : Method) → m ≡ emptyMethod → Filling ms (replicate maxMethods m) 0
-  filling-starts ms m e = subst (λ (m : Method). Filling ms (replicate maxMethods m) 0)
-      (sym e) record { low = omega arith; long = refl; made = λ i h. absurd (not-suc-le-zero h); rest = λ i h l. blank-at maxMethods i l }
+  pub filling-starts : (ms : ℕ) (m : Method) → m ≡ empty_method → Filling ms (replicate max_methods m) 0
+  filling-starts ms m e = subst (λ (m : Method). Filling ms (replicate max_methods m) 0)
+      (sym e) record { low = omega arith; long = refl; made = λ i h. absurd (not-suc-le-zero h); rest = λ i h l. blank-at max_methods i l }
     where
-      blank-at : (n i : ℕ) → i < n → rawMethod (get_or (replicate n emptyMethod) i absent) ≡ blankMethod
+      blank-at : (n i : ℕ) → i < n → raw_method (get_or (replicate n empty_method) i absent) ≡ blank_method
       blank-at zero i h = absurd (not-suc-le-zero h)
       blank-at (suc n) zero h = refl
       blank-at (suc n) (suc i) h = blank-at n i (le_of_suc-le-suc h)
 
-  pub filling-next : {ms : ℕ} {all : List Method} {j : ℕ} → Filling ms all j → j < ms → ms ≤ maxMethods → (p q m : Method) → rawMethod p ≡ rawIn (leftIn w) j
-      → rawMethod q ≡ rawIn (rightIn w) j
-      → (methodOf (rawMethod m) ≡ fill (kindIn w) (methodOf (rawMethod p)) (methodOf (rawMethod q))
-      (get_or ns (j * methodSlots) 0 ∷ get_or ns (j * methodSlots + 1) 0 ∷ get_or ns (j * methodSlots + 2) 0 ∷ get_or ns (j * methodSlots + 3) 0 ∷ []) (get_or ns (j * methodSlots + argumentSlots) 0))
-      × (MethodExact (rawMethod m) × (MethodCoded (rawMethod p) → MethodCoded (rawMethod m))) → Filling ms (set all j m) (j + 1)
+  pub filling-next : {ms : ℕ} {all : List Method} {j : ℕ} → Filling ms all j → j < ms → ms ≤ max_methods → (p q m : Method) → raw_method p ≡ raw_in (left_in w) j
+      → raw_method q ≡ raw_in (right_in w) j
+      → (method_of (raw_method m) ≡ fill (kind_in w) (method_of (raw_method p)) (method_of (raw_method q))
+      (get_or ns (j * method_slots) 0 ∷ get_or ns (j * method_slots + 1) 0 ∷ get_or ns (j * method_slots + 2) 0 ∷ get_or ns (j * method_slots + 3) 0 ∷ []) (get_or ns (j * method_slots + argument_slots) 0))
+      × (MethodExact (raw_method m) × (MethodCoded (raw_method p) → MethodCoded (raw_method m))) → Filling ms (set all j m) (j + 1)
   filling-next {ms} {all} {j} so h few p q m ep eq em = let l = so.long in record {
     low = omega arith;
     long = length-set all j m ∙ so.long;
     made = set_next Well all j m absent (omega arith) so.made
-        (filled-here (kindIn w) (leftIn w) (rightIn w) ns j p q m ep eq em.0, (em.1.0, λ c. em.1.1 (subst MethodCoded (sym ep) c)));
-    rest = λ i g k. ap rawMethod (get_or-set_other all j i m absent (λ e. let z : i ≡ j = e in omega arith)) ∙ so.rest i (omega arith) k;
+        (filled-here (kind_in w) (left_in w) (right_in w) ns j p q m ep eq em.0, (em.1.0, λ c. em.1.1 (subst MethodCoded (sym ep) c)));
+    rest = λ i g k. ap raw_method (get_or-set_other all j i m absent (λ e. let z : i ≡ j = e in omega arith)) ∙ so.rest i (omega arith) k;
   }
 
   -- the type that they make
-  pub filling-ends : {ms : ℕ} {all : List Method} {j : ℕ} → Filling ms all j → ms ≤ j → w.key.kind < 3 → (z : TypeRec) → rawOf z ≡ newRecord w (rawOf z).methods
+  pub filling-ends : {ms : ℕ} {all : List Method} {j : ℕ} → Filling ms all j → ms ≤ j → w.key.kind < 3 → (z : TypeRec) → raw_of z ≡ new_record w (raw_of z).methods
       → z.methods ≡ all
       → Finished w ms ns z
   filling-ends {ms} {all} {j} so done k z e em = record {
     head = e;
-    filled = λ i h. ap methodOf (at i) ∙ (so.made i (omega arith)).0;
+    filled = λ i h. ap method_of (at i) ∙ (so.made i (omega arith)).0;
     exact = λ sh i h. subst (TypeExact ms sh i) (sym e)
-        (ref-exact ms sh i (newRecord w (rawOf z).methods) (length-map z.methods rawMethod ∙ ap length em ∙ so.long) (derived-key sh i (newRecord w (rawOf z).methods) h k) refl
+        (ref-exact ms sh i (new_record w (raw_of z).methods) (length-map z.methods raw_method ∙ ap length em ∙ so.long) (derived-key sh i (new_record w (raw_of z).methods) h k) refl
         (omega arith)
         (λ n l. subst MethodExact (sym (at n)) (so.made n (omega arith)).1.0) (λ n l r. at n ∙ so.rest n (let g = so.low in omega arith) r));
     coded = λ i h c. subst MethodCoded (sym (at i)) ((so.made i (omega arith)).1.1 c);
   }
     where
-      at : (i : ℕ) → rawIn z i ≡ rawMethod (get_or all i absent)
-      at i = sym (raw-methods z.methods i) ∙ ap (λ (ms : List Method). rawMethod (get_or ms i absent)) em
+      at : (i : ℕ) → raw_in z i ≡ raw_method (get_or all i absent)
+      at i = sym (raw-methods z.methods i) ∙ ap (λ (ms : List Method). raw_method (get_or ms i absent)) em

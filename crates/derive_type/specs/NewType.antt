@@ -4,11 +4,11 @@ use Rattle.std.proofs.Math.Bool.{So}
 use Rattle.std.proofs.Math.Option.{none}
 use Rattle.spec_model.specs.Table.{Kind, sub, sup, closed, Method, permit}
 use Rattle.spec_model.specs.Restriction.{restricted}
-use Rattle.spec_model.specs.Check.{RawMethod, RawType, noRawMethod, kind_of, answer_of, methodOf, rawMethodFits}
-use Rattle.spec_model.specs.Records.{argumentSlots}
+use Rattle.spec_model.specs.Check.{RawMethod, RawType, no_raw_method, kind_of, answer_of, method_of, raw_method_fits}
+use Rattle.spec_model.specs.Records.{argument_slots}
 use Rattle.table_record.specs.declared.TypeRec.{TypeRec}
-use Rattle.table_record.specs.Store.{rawMethod, rawOf, emptyType, TypeExact}
-use Rattle.derive_slots.specs.Slots.{methodSlots}
+use Rattle.table_record.specs.Store.{raw_method, raw_of, empty_type, TypeExact}
+use Rattle.derive_slots.specs.Slots.{method_slots}
 use Rattle.derive_type.specs.declared.Work.{Work}
 
 -- how many arguments both signatures have
@@ -26,61 +26,61 @@ fill d x y args answer = record {
 }
 
 -- method j, from the bytes of all slots
-abbrev pub fillAt : Kind → (ℕ → Method) → (ℕ → Method) → List ℕ → ℕ → Method
-fillAt d x y ns j = fill d (x j) (y j) (get_or ns (j * methodSlots) 0 ∷ get_or ns (j * methodSlots + 1) 0 ∷ get_or ns (j * methodSlots + 2) 0 ∷ get_or ns (j * methodSlots + 3) 0 ∷ [])
-    (get_or ns (j * methodSlots + argumentSlots) 0)
+abbrev pub fill_at : Kind → (ℕ → Method) → (ℕ → Method) → List ℕ → ℕ → Method
+fill_at d x y ns j = fill d (x j) (y j) (get_or ns (j * method_slots) 0 ∷ get_or ns (j * method_slots + 1) 0 ∷ get_or ns (j * method_slots + 2) 0 ∷ get_or ns (j * method_slots + 3) 0 ∷ [])
+    (get_or ns (j * method_slots + argument_slots) 0)
 
 -- method j of a type of the code: as it is stored, and what it means
-abbrev pub rawIn : TypeRec → ℕ → RawMethod
-rawIn x j = get_or (rawOf x).methods j noRawMethod
+abbrev pub raw_in : TypeRec → ℕ → RawMethod
+raw_in x j = get_or (raw_of x).methods j no_raw_method
 
-abbrev pub methodIn : TypeRec → ℕ → Method
-methodIn x j = methodOf (rawIn x j)
+abbrev pub method_in : TypeRec → ℕ → Method
+method_in x j = method_of (raw_in x j)
 
 -- the codes of a stored method name something, as the check of a table handed in asks
 abbrev pub MethodCoded : RawMethod → Type 0
-MethodCoded m = So (rawMethodFits m)
+MethodCoded m = So (raw_method_fits m)
 
 -- A method as it is stored: without a signature, and with one of so many arguments, the bytes of the other slots being 0.
-abbrev pub bareMethod : ℕ → RawMethod
-bareMethod state = record { state = state; count = 0; args = 0 ∷ 0 ∷ 0 ∷ 0 ∷ []; answer = 0 }
+abbrev pub bare_method : ℕ → RawMethod
+bare_method state = record { state = state; count = 0; args = 0 ∷ 0 ∷ 0 ∷ 0 ∷ []; answer = 0 }
 
-abbrev pub slotByte : ℕ → List ℕ → ℕ → ℕ
-slotByte count args i = cond (ltb i count) (get_or args i 0) 0
+abbrev pub slot_byte : ℕ → List ℕ → ℕ → ℕ
+slot_byte count args i = cond (ltb i count) (get_or args i 0) 0
 
-abbrev pub signedMethod : ℕ → ℕ → List ℕ → ℕ → RawMethod
-signedMethod state count args answer =
-    record { state = state; count = count; args = slotByte count args 0 ∷ slotByte count args 1 ∷ slotByte count args 2 ∷ slotByte count args 3 ∷ []; answer = answer }
+abbrev pub signed_method : ℕ → ℕ → List ℕ → ℕ → RawMethod
+signed_method state count args answer =
+    record { state = state; count = count; args = slot_byte count args 0 ∷ slot_byte count args 1 ∷ slot_byte count args 2 ∷ slot_byte count args 3 ∷ []; answer = answer }
 
 -- The two sides of the type at work.
-abbrev pub leftIn : Work → TypeRec
-leftIn w = record { head = w.lefthead; methods = w.left }
+abbrev pub left_in : Work → TypeRec
+left_in w = record { head = w.lefthead; methods = w.left }
 
-abbrev pub rightIn : Work → TypeRec
-rightIn w = record { head = w.righthead; methods = w.right }
+abbrev pub right_in : Work → TypeRec
+right_in w = record { head = w.righthead; methods = w.right }
 
 -- The kind of the type at work, and the category of the side that it keeps.
-abbrev pub kindIn : Work → Kind
-kindIn w = kind_of w.key.kind
+abbrev pub kind_in : Work → Kind
+kind_in w = kind_of w.key.kind
 
-abbrev pub mainOf : Kind → TypeRec → TypeRec → TypeRec
-mainOf sub x y = x
-mainOf sup x y = y
-mainOf closed x y = x
+abbrev pub main_of : Kind → TypeRec → TypeRec → TypeRec
+main_of sub x y = x
+main_of sup x y = y
+main_of closed x y = x
 
-abbrev pub catIn : Work → ℕ
-catIn w = (mainOf (kindIn w) (leftIn w) (rightIn w)).head.cat
+abbrev pub cat_in : Work → ℕ
+cat_in w = (main_of (kind_in w) (left_in w) (right_in w)).head.cat
 
 -- A derived type as it is stored, and one at work, with every method denied.
-abbrev pub newRecord : Work → List RawMethod → RawType
-newRecord w ms = record { rep = 0; cat = catIn w; own_val = 0; kind = w.key.kind; left = w.key.left; right = w.key.right; methods = ms }
+abbrev pub new_record : Work → List RawMethod → RawType
+new_record w ms = record { rep = 0; cat = cat_in w; own = 0; kind = w.key.kind; left = w.key.left; right = w.key.right; methods = ms }
 
-abbrev pub pendingRecord : Work → RawType
-pendingRecord w = newRecord w (map rawMethod emptyType.methods)
+abbrev pub pending_record : Work → RawType
+pending_record w = new_record w (map raw_method empty_type.methods)
 
 -- The finished type, from the bytes of its slots: it is stored exactly.
 pub record Finished (w : Work) (ms : ℕ) (ns : List ℕ) (z : TypeRec) : Type 0 where
-  pub head : rawOf z ≡ newRecord w (rawOf z).methods
-  pub filled : (j : ℕ) → j < ms → methodIn z j ≡ fillAt (kindIn w) (methodIn (leftIn w)) (methodIn (rightIn w)) ns j
-  pub exact : (sheet i : ℕ) → sheet ≤ i → TypeExact ms sheet i (rawOf z)
-  pub coded : (j : ℕ) → j < ms → MethodCoded (rawIn (leftIn w) j) → MethodCoded (rawIn z j)
+  pub head : raw_of z ≡ new_record w (raw_of z).methods
+  pub filled : (j : ℕ) → j < ms → method_in z j ≡ fill_at (kind_in w) (method_in (left_in w)) (method_in (right_in w)) ns j
+  pub exact : (sheet i : ℕ) → sheet ≤ i → TypeExact ms sheet i (raw_of z)
+  pub coded : (j : ℕ) → j < ms → MethodCoded (raw_in (left_in w) j) → MethodCoded (raw_in z j)

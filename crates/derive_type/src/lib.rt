@@ -1,11 +1,11 @@
 // Derivation (D): the record of a new type, from its two sides as they were read and the bytes of its slots: as it stands until its signatures are derived,
 // and finished. What is derived for a slot, and the state of a method, are said in crate `derive_slots`.
 ghost use Rattle.std.specs.Prelude.{◌≡◌, cond, ◌≤◌, ◌<◌, min, ltb};
-ghost use Rattle.spec_model.specs.Check.{kind_of, methodOf};
-ghost use Rattle.spec_model.specs.Table.{maxMethods};
-ghost use Rattle.spec_model.specs.Records.{argumentSlots};
-ghost use Rattle.table_record.specs.Store.{rawMethod, rawOf, MethodExact};
-ghost use Rattle.derive_type.specs.NewType.{fill, MethodCoded, bareMethod, signedMethod, catIn, newRecord, pendingRecord, Finished};
+ghost use Rattle.spec_model.specs.Check.{kind_of, method_of};
+ghost use Rattle.spec_model.specs.Table.{max_methods};
+ghost use Rattle.spec_model.specs.Records.{argument_slots};
+ghost use Rattle.table_record.specs.Store.{raw_method, raw_of, MethodExact};
+ghost use Rattle.derive_type.specs.NewType.{fill, MethodCoded, bare_method, signed_method, cat_in, new_record, pending_record, Finished};
 
 use base_numbers::{least, narrow, wide};
 use derive_slots::{METHOD_SLOTS, SLOT_BYTES, state_of};
@@ -23,7 +23,7 @@ pub struct Work {
 
 // How many arguments both signatures have (D20), at most the four that a record has room for.
 fn shared_count(x: u8, y: u8) -> usize
-    ensures { result ≡ min (min x y) argumentSlots }
+    ensures { result ≡ min (min x y) argument_slots }
 {
     let c = wide(x);
     let e = wide(y);
@@ -43,7 +43,7 @@ fn argument_byte(x: u8, i: usize, count: usize) -> u8
 
 // A method that isn't permitted has no signature, and no byte of one (B16).
 fn unsigned(state: u8) -> Method
-    ensures { rawMethod result ≡ bareMethod state }
+    ensures { raw_method result ≡ bare_method state }
 {
     Method {
         state,
@@ -55,8 +55,8 @@ fn unsigned(state: u8) -> Method
 
 // A method with a signature of so many arguments.
 fn signed(state: u8, count: usize, args: [u8; Method::SLOTS], answer: u8) -> Method
-    requires { count ≤ argumentSlots }
-    ensures { rawMethod result ≡ signedMethod state count args answer }
+    requires { count ≤ argument_slots }
+    ensures { raw_method result ≡ signed_method state count args answer }
 {
     let a = argument_byte(args[0], 0, count);
     let b = argument_byte(args[1], 1, count);
@@ -73,9 +73,9 @@ fn signed(state: u8, count: usize, args: [u8; Method::SLOTS], answer: u8) -> Met
 // A method of the derived type, from the bytes of its slots: the record that stands for what it means (B13).
 fn filled(kind: u8, p: Method, q: Method, args: [u8; Method::SLOTS], answer: u8) -> Method
     requires { kind < 3 }
-    ensures is { methodOf (rawMethod result) ≡ fill (kind_of kind) (methodOf (rawMethod p)) (methodOf (rawMethod q)) args answer }
-    ensures exact { MethodExact (rawMethod result) }
-    ensures coded { MethodCoded (rawMethod p) → MethodCoded (rawMethod result) }
+    ensures is { method_of (raw_method result) ≡ fill (kind_of kind) (method_of (raw_method p)) (method_of (raw_method q)) args answer }
+    ensures exact { MethodExact (raw_method result) }
+    ensures coded { MethodCoded (raw_method p) → MethodCoded (raw_method result) }
 {
     let state = state_of(kind, p.state, q.state);
     let stays = permits(state);
@@ -88,7 +88,7 @@ fn filled(kind: u8, p: Method, q: Method, args: [u8; Method::SLOTS], answer: u8)
 
 // The category of the side that the derived type keeps: the right one for Sup (D1, D3, D7).
 fn category(w: Work) -> u8
-    ensures { result ≡ catIn w }
+    ensures { result ≡ cat_in w }
 {
     if w.key.kind == Key::SUP {
         return w.righthead.cat;
@@ -99,7 +99,7 @@ fn category(w: Work) -> u8
 // A derived type is a reference type with own=no, known by its key (D11).
 fn new_type(w: Work, methods: [Method; Counts::METHODS]) -> TypeRec
     requires { (w.key.left < 256) × (w.key.right < 256) }
-    ensures { (rawOf result ≡ newRecord w (rawOf result).methods) × (result.methods ≡ methods) }
+    ensures { (raw_of result ≡ new_record w (raw_of result).methods) × (result.methods ≡ methods) }
 {
     let cat = category(w);
     let left = narrow(w.key.left);
@@ -118,7 +118,7 @@ fn new_type(w: Work, methods: [Method; Counts::METHODS]) -> TypeRec
 // The type as it stands until its signatures are derived: every method is denied (D16).
 pub fn pending(w: Work) -> TypeRec
     requires { (w.key.left < 256) × (w.key.right < 256) }
-    ensures { rawOf result ≡ pendingRecord w }
+    ensures { raw_of result ≡ pending_record w }
 {
     let empty = TypeRec::empty();
     let methods = empty.methods;
@@ -127,7 +127,7 @@ pub fn pending(w: Work) -> TypeRec
 
 // The derived type, from the bytes of its slots.
 pub fn finished(w: Work, methods: usize, slots: [u8; SLOT_BYTES]) -> TypeRec
-    requires { (w.key.kind < 3) × (w.key.left < 256) × (w.key.right < 256) × (methods ≤ maxMethods) }
+    requires { (w.key.kind < 3) × (w.key.left < 256) × (w.key.right < 256) × (methods ≤ max_methods) }
     ensures { Finished w methods slots result }
 {
     let empty = Method::empty();

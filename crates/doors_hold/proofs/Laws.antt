@@ -9,58 +9,58 @@ use lib.ListN.{length, get_or, drop, drop_of_length-le}
 use lib.Seq.{drop-cons}
 use borrow.Author.Tests.{le-leb, lt-leb, not-true, not-false}
 use Rattle.spec_model.specs.Basics.{refuse, ok}
-use Rattle.spec_model.specs.Refusals.{unfitTimes}
-use Rattle.spec_doors.specs.Times.{maxTimes, lastTime, maxTolerance, rising, timesFit, all_fit}
-use Rattle.spec_doors.specs.Held.{pairsOf, counts, held}
+use Rattle.spec_model.specs.Refusals.{unfit_times}
+use Rattle.spec_doors.specs.Times.{max_times, last_time, max_tolerance, rising, times_fit, all_fit}
+use Rattle.spec_doors.specs.Held.{pairs_of, counts, held}
 use Rattle.spec_doors.proofs.Pass.{left, no-marks, no-arrivals, mark-early, arrival-early, paired}
 
 -- ---- One list: the whole test is the test of what is left
 module _ (xs : List ℕ) (low k : ℕ) (h : k < length xs) where
-  pub rises : low ≤ get_or xs k 0 → get_or xs k 0 ≤ lastTime → rising low (drop k xs) ≡ rising (get_or xs k 0) (drop (k + 1) xs)
+  pub rises : low ≤ get_or xs k 0 → get_or xs k 0 ≤ last_time → rising low (drop k xs) ≡ rising (get_or xs k 0) (drop (k + 1) xs)
   unfolding rising
-  rises a b = rw (drop-cons xs k 0 h, add-one k, le-leb low (get_or xs k 0) a, le-leb (get_or xs k 0) lastTime b)
+  rises a b = rw (drop-cons xs k 0 h, add-one k, le-leb low (get_or xs k 0) a, le-leb (get_or xs k 0) last_time b)
 
   pub falls : get_or xs k 0 < low → rising low (drop k xs) ≡ false
   unfolding rising
   falls a = rw (drop-cons xs k 0 h, lt-leb low (get_or xs k 0) a)
 
-  pub too-late : low ≤ get_or xs k 0 → lastTime < get_or xs k 0 → rising low (drop k xs) ≡ false
+  pub too-late : low ≤ get_or xs k 0 → last_time < get_or xs k 0 → rising low (drop k xs) ≡ false
   unfolding rising
-  too-late a b = rw (drop-cons xs k 0 h, le-leb low (get_or xs k 0) a, lt-leb (get_or xs k 0) lastTime b)
+  too-late a b = rw (drop-cons xs k 0 h, le-leb low (get_or xs k 0) a, lt-leb (get_or xs k 0) last_time b)
 
 pub none_left : (xs : List ℕ) (low k : ℕ) → length xs ≤ k → rising low (drop k xs) ≡ true
 unfolding rising
 none_left xs low k h = rw (drop_of_length-le xs {i = k} h)
 
-pub too_many : (xs : List ℕ) → maxTimes < length xs → false ≡ timesFit xs
-too_many xs h = rw (lt-leb (length xs) maxTimes h)
+pub too-many : (xs : List ℕ) → max_times < length xs → false ≡ times_fit xs
+too-many xs h = rw (lt-leb (length xs) max_times h)
 
-pub as-rising : (xs : List ℕ) → length xs ≤ maxTimes → (b : Bool) → rising 0 xs ≡ b → b ≡ timesFit xs
-as-rising xs h b e = rw (le-leb (length xs) maxTimes h, e)
+pub as-rising : (xs : List ℕ) → length xs ≤ max_times → (b : Bool) → rising 0 xs ≡ b → b ≡ times_fit xs
+as-rising xs h b e = rw (le-leb (length xs) max_times h, e)
 
 -- ---- The pass over both: n pairs were made, and what is left has the others
-pub before-all : (within : ℕ) (marks arrivals : List ℕ) → pairsOf within marks arrivals ≡ 0 + left within marks arrivals 0 0
+pub before-all : (within : ℕ) (marks arrivals : List ℕ) → pairs_of within marks arrivals ≡ 0 + left within marks arrivals 0 0
 before-all within marks arrivals = omega arith
 
-module _ (within : ℕ) (marks arrivals : List ℕ) (i j n : ℕ) (inv : pairsOf within marks arrivals ≡ n + left within marks arrivals i j) where
-  ended : left within marks arrivals i j ≡ 0 → n ≡ pairsOf within marks arrivals
+module _ (within : ℕ) (marks arrivals : List ℕ) (i j n : ℕ) (inv : pairs_of within marks arrivals ≡ n + left within marks arrivals i j) where
+  ended : left within marks arrivals i j ≡ 0 → n ≡ pairs_of within marks arrivals
   ended z = omega (arith, inv, z)
 
-  pub marks-over : length marks ≤ i → n ≡ pairsOf within marks arrivals
+  pub marks-over : length marks ≤ i → n ≡ pairs_of within marks arrivals
   marks-over h = ended (no-marks within marks arrivals i j h)
 
-  pub arrivals-over : length arrivals ≤ j → n ≡ pairsOf within marks arrivals
+  pub arrivals-over : length arrivals ≤ j → n ≡ pairs_of within marks arrivals
   arrivals-over h = ended (no-arrivals within marks arrivals i j h)
 
   module _ (hi : i < length marks) (hj : j < length arrivals) where
-    pub next-mark : get_or marks i 0 + within < get_or arrivals j 0 → pairsOf within marks arrivals ≡ n + left within marks arrivals (i + 1) j
+    pub next-mark : get_or marks i 0 + within < get_or arrivals j 0 → pairs_of within marks arrivals ≡ n + left within marks arrivals (i + 1) j
     next-mark h = inv ∙ ap (λ k. n + k) (mark-early within marks arrivals i j hi hj h)
 
     module _ (late : get_or arrivals j 0 ≤ get_or marks i 0 + within) where
-      pub next-arrival : get_or arrivals j 0 + within < get_or marks i 0 → pairsOf within marks arrivals ≡ n + left within marks arrivals i (j + 1)
+      pub next-arrival : get_or arrivals j 0 + within < get_or marks i 0 → pairs_of within marks arrivals ≡ n + left within marks arrivals i (j + 1)
       next-arrival h = inv ∙ ap (λ k. n + k) (arrival-early within marks arrivals i j hi hj late h)
 
-      pub next-pair : get_or marks i 0 ≤ get_or arrivals j 0 + within → pairsOf within marks arrivals ≡ (n + 1) + left within marks arrivals (i + 1) (j + 1)
+      pub next-pair : get_or marks i 0 ≤ get_or arrivals j 0 + within → pairs_of within marks arrivals ≡ (n + 1) + left within marks arrivals (i + 1) (j + 1)
       next-pair h = omega (arith, inv, paired within marks arrivals i j hi hj late h)
 
 -- ---- The tests of a whole call
@@ -72,21 +72,21 @@ pub accepts : (r t : Bool) → r ≡ t → not r ≡ false → true ≡ t
 accepts r t e n = sym (not-false r n) ∙ e
 
 module _ (marks arrivals : List ℕ) (within : ℕ) where
-  unfits : all_fit marks arrivals within ≡ false → refuse unfitTimes ≡ held marks arrivals within
+  unfits : all_fit marks arrivals within ≡ false → refuse unfit_times ≡ held marks arrivals within
   unfolding held
   unfits e = rw e
 
-  pub too_wide : maxTolerance < within → refuse unfitTimes ≡ held marks arrivals within
-  too_wide h = unfits (rw (lt-leb within maxTolerance h))
+  pub too-wide : max_tolerance < within → refuse unfit_times ≡ held marks arrivals within
+  too-wide h = unfits (rw (lt-leb within max_tolerance h))
 
-  module _ (h : within ≤ maxTolerance) where
-    pub marks-unfit : false ≡ timesFit marks → refuse unfitTimes ≡ held marks arrivals within
-    marks-unfit e = unfits (rw (le-leb within maxTolerance h, ← e))
+  module _ (h : within ≤ max_tolerance) where
+    pub marks-unfit : false ≡ times_fit marks → refuse unfit_times ≡ held marks arrivals within
+    marks-unfit e = unfits (rw (le-leb within max_tolerance h, ← e))
 
-    module _ (a : true ≡ timesFit marks) where
-      pub arrivals-unfit : false ≡ timesFit arrivals → refuse unfitTimes ≡ held marks arrivals within
-      arrivals-unfit e = unfits (rw (le-leb within maxTolerance h, ← a, ← e))
+    module _ (a : true ≡ times_fit marks) where
+      pub arrivals-unfit : false ≡ times_fit arrivals → refuse unfit_times ≡ held marks arrivals within
+      arrivals-unfit e = unfits (rw (le-leb within max_tolerance h, ← a, ← e))
 
-      pub all-counted : true ≡ timesFit arrivals → (n : ℕ) → n ≡ pairsOf within marks arrivals → ok (counts marks arrivals n) ≡ held marks arrivals within
+      pub all-counted : true ≡ times_fit arrivals → (n : ℕ) → n ≡ pairs_of within marks arrivals → ok (counts marks arrivals n) ≡ held marks arrivals within
       unfolding held
-      all-counted e n q = rw (le-leb within maxTolerance h, ← a, ← e, q)
+      all-counted e n q = rw (le-leb within max_tolerance h, ← a, ← e, q)

@@ -1,7 +1,7 @@
 // Marks held against arrivals (V): one pass over each list for what may be handed in, and one over both for the pairs (V8).
 ghost use Rattle.std.specs.Prelude.{◌≡◌, true, ◌≤◌};
-ghost use Rattle.spec_doors.specs.Times.{maxTolerance, rising, timesFit};
-ghost use Rattle.spec_doors.specs.Held.{pairsOf, held};
+ghost use Rattle.spec_doors.specs.Times.{max_tolerance, rising, times_fit};
+ghost use Rattle.spec_doors.specs.Held.{pairs_of, held};
 ghost use Rattle.doors_hold.specs.Result.{held_of};
 
 use base_numbers::refusal;
@@ -28,7 +28,7 @@ pub enum Held {
 
 // Whether a list of times may be handed in (V1, V2).
 fn times_fit(xs: &[u64]) -> bool
-    ensures { result ≡ timesFit xs.now }
+    ensures { result ≡ times_fit xs.now }
 {
     if TIMES < xs.len() {
         return false;
@@ -51,8 +51,8 @@ fn times_fit(xs: &[u64]) -> bool
 
 // The pass (V8). Times and tolerance are small enough to be added.
 fn count_pairs(marks: &[u64], arrivals: &[u64], within: u64) -> usize
-    requires { (rising 0 marks.now ≡ true) × (rising 0 arrivals.now ≡ true) × (within ≤ maxTolerance) }
-    ensures { result ≡ pairsOf within marks.now arrivals.now }
+    requires { (rising 0 marks.now ≡ true) × (rising 0 arrivals.now ≡ true) × (within ≤ max_tolerance) }
+    ensures { result ≡ pairs_of within marks.now arrivals.now }
 {
     let mut i: usize = 0;
     let mut j: usize = 0;

@@ -2,5 +2,5 @@
 use Rattle.std.specs.Prelude.{ℕ}
 
 -- at least 109 bytes, which the writers are shown to keep to
-abbrev pub printedSize : ℕ
-printedSize = 128
+abbrev pub printed_size : ℕ
+printed_size = 128

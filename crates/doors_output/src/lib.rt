@@ -1,13 +1,13 @@
 // The program `doors`: three lines in, one line out (P27 to P29). `report` takes any bytes and says what is printed, in the words of crate `spec_doors`.
 ghost use Rattle.std.specs.Prelude.{◌≡◌, [], ◌∷◌, ◌++◌, ◌≤◌, length, take};
 ghost use Rattle.spec_sheet.specs.Lines.{bytes, split};
-ghost use Rattle.spec_sheet.specs.Text.{numberText};
-ghost use Rattle.spec_doors.specs.Times.{maxTimes};
-ghost use Rattle.spec_doors.specs.Input.{inputLines};
-ghost use Rattle.spec_doors.specs.Output.{heldText, heldIn, doorsOutput};
+ghost use Rattle.spec_sheet.specs.Text.{number_text};
+ghost use Rattle.spec_doors.specs.Times.{max_times};
+ghost use Rattle.spec_doors.specs.Input.{input_lines};
+ghost use Rattle.spec_doors.specs.Output.{held_text, held_in, doors_output};
 ghost use Rattle.doors_hold.specs.Result.{held_of};
 ghost use Rattle.text_write.specs.Fill.{Filled, Lined};
-ghost use Rattle.doors_output.specs.Room.{printedSize};
+ghost use Rattle.doors_output.specs.Room.{printed_size};
 
 use base_numbers::{least, refusal};
 use doors_hold::{Held, TIMES};
@@ -28,14 +28,14 @@ pub struct Printed {
 }
 
 fn no_times() -> [u64; TIMES]
-    ensures { length result ≡ maxTimes }
+    ensures { length result ≡ max_times }
 {
     [0u64; TIMES]
 }
 
 // What comes of the input's lines. More times than there is room for are more than V1 allows.
 fn hold_lines(s: &[u8]) -> Held
-    ensures { held_of result ≡ heldIn (inputLines 0 (split s.now)) }
+    ensures { held_of result ≡ held_in (input_lines 0 (split s.now)) }
 {
     let mut marks = no_times();
     let mut arrivals = no_times();
@@ -59,7 +59,7 @@ fn hold_lines(s: &[u8]) -> Held
 
 // The last two counts of a line.
 fn write_unpaired(buf: &mut [u8], marks: usize, arrivals: usize) -> usize
-    ensures is { Lined buf.old buf.new ((numberText (bytes " ") marks ++ numberText (bytes " ") arrivals) ∷ []) result }
+    ensures is { Lined buf.old buf.new ((number_text (bytes " ") marks ++ number_text (bytes " ") arrivals) ∷ []) result }
     ensures few { result ≤ 73 }
 {
     let a = put_number(buf, b" ", marks);
@@ -69,7 +69,7 @@ fn write_unpaired(buf: &mut [u8], marks: usize, arrivals: usize) -> usize
 
 // `got=` and the three counts (P29)
 fn write_counts(buf: &mut [u8], pairs: usize, marks: usize, arrivals: usize) -> usize
-    ensures is { Lined buf.old buf.new (heldText (held_of (Held.Counted pairs marks arrivals)) ∷ []) result }
+    ensures is { Lined buf.old buf.new (held_text (held_of (Held.Counted pairs marks arrivals)) ∷ []) result }
     ensures few { result ≤ 109 }
 {
     let a = put_number(buf, b"got=", pairs);
@@ -79,7 +79,7 @@ fn write_counts(buf: &mut [u8], pairs: usize, marks: usize, arrivals: usize) -> 
 
 // The line of a result.
 fn write_held(buf: &mut [u8], h: Held) -> usize
-    ensures is { Lined buf.old buf.new (heldText (held_of h) ∷ []) result }
+    ensures is { Lined buf.old buf.new (held_text (held_of h) ∷ []) result }
     ensures few { result ≤ 109 }
 {
     match h {
@@ -94,7 +94,7 @@ fn write_held(buf: &mut [u8], h: Held) -> usize
 
 // The whole output, in front of a lent buffer.
 fn put_report(buf: &mut [u8], s: &[u8]) -> usize
-    ensures is { Filled buf.old buf.new (doorsOutput s.now) result }
+    ensures is { Filled buf.old buf.new (doors_output s.now) result }
     ensures few { result ≤ 109 }
 {
     if INPUT_BYTES < s.len() {
@@ -105,14 +105,14 @@ fn put_report(buf: &mut [u8], s: &[u8]) -> usize
 }
 
 fn blank() -> [u8; PRINTED_BYTES]
-    ensures { length result ≡ printedSize }
+    ensures { length result ≡ printed_size }
 {
     [0u8; PRINTED_BYTES]
 }
 
 // What the program prints for any input. `within` says what `&text[..length]` asks.
 pub fn report(s: &[u8]) -> Printed
-    ensures is { take result.length result.text ≡ doorsOutput s.now }
+    ensures is { take result.length result.text ≡ doors_output s.now }
     ensures within { (result.length ≤ length result.text) × (result.length ≡ length (take result.length result.text)) }
 {
     let mut text = blank();

@@ -5,11 +5,11 @@ use Prim.Native.Nat.{ℕ, ◌≤◌, ◌<◌}
 use native.Mathlib.Omega.{arith}
 use lib.ListN.{length, drop, length-drop}
 use Rattle.spec_model.specs.Refusals.{form}
-use Rattle.spec_sheet.specs.Lines.{bytes, Row, split, Reading, refused, Reader, pure, line, follow, bind, endOfInput}
+use Rattle.spec_sheet.specs.Lines.{bytes, Row, split, Reading, refused, Reader, pure, line, follow, bind, end_of_input}
 use Rattle.spec_sheet.specs.Numbers.{top}
-use Rattle.spec_sheet.specs.Sheet.{numberLine}
+use Rattle.spec_sheet.specs.Sheet.{number_line}
 use Rattle.spec_sheet.proofs.Lines.{unsplit, unsplit-split}
-use Rattle.spec_doors.specs.Input.{timesLine, Input, inputLines}
+use Rattle.spec_doors.specs.Input.{times_line, Input, input_lines}
 use Rattle.spec_doors.proofs.Forms.{input-form}
 use Rattle.text_cursor.specs.declared.Cursor.{Cursor}
 use Rattle.text_read.specs.View.{read_by}
@@ -21,53 +21,53 @@ use Rattle.doors_read.specs.declared.Line.{Line}
 use Rattle.doors_read.specs.declared.Line.TheVariants.{Wrong, Right}
 
 -- ---- What is left behind the arrivals, behind the marks and behind the tolerance.
-abbrev pub behindArrivals : ℕ → List ℕ → List ℕ → Reader Input
-behindArrivals w ms xs = bind endOfInput λ _. pure (record { within = w; marks = ms; arrivals = xs })
+abbrev pub behind_arrivals : ℕ → List ℕ → List ℕ → Reader Input
+behind_arrivals w ms xs = bind end_of_input λ _. pure (record { within = w; marks = ms; arrivals = xs })
 
-abbrev pub behindMarks : ℕ → List ℕ → Reader Input
-behindMarks w ms = bind (line timesLine) (behindArrivals w ms)
+abbrev pub behind_marks : ℕ → List ℕ → Reader Input
+behind_marks w ms = bind (line times_line) (behind_arrivals w ms)
 
-abbrev pub behindTolerance : ℕ → Reader Input
-behindTolerance w = bind (line timesLine) (behindMarks w)
+abbrev pub behind_tolerance : ℕ → Reader Input
+behind_tolerance w = bind (line times_line) (behind_marks w)
 
 -- some line is refused, the form being wrong
 abbrev pub FormWrong : Reading Input → Type 0
 FormWrong R = (at : ℕ) × (R ≡ refused form at)
 
 module _ (s : List ℕ) (c : Cursor) (g : Got) (z : c.at ≡ 0)
-    (e : read_by (λ n. n) s c.at g ≡ line (numberLine (bytes "within=") 0 top) c.at (split (drop c.at s))) where
-  first-line : inputLines 0 (split s) ≡ follow (read_by (λ n. n) s c.at g) behindTolerance
-  unfolding inputLines
-  first-line = sym (ap (λ R. follow R behindTolerance) e ∙ ap (λ (a : ℕ). follow (line (numberLine (bytes "within=") 0 top) a (split (drop a s))) behindTolerance) z)
+    (e : read_by (λ n. n) s c.at g ≡ line (number_line (bytes "within=") 0 top) c.at (split (drop c.at s))) where
+  first-line : input_lines 0 (split s) ≡ follow (read_by (λ n. n) s c.at g) behind_tolerance
+  unfolding input_lines
+  first-line = sym (ap (λ R. follow R behind_tolerance) e ∙ ap (λ (a : ℕ). follow (line (number_line (bytes "within=") 0 top) a (split (drop a s))) behind_tolerance) z)
 
-  pub no-tolerance : (k : ℕ) → g ≡ Refused k → FormWrong (inputLines 0 (split s))
+  pub no-tolerance : (k : ℕ) → g ≡ Refused k → FormWrong (input_lines 0 (split s))
   no-tolerance k q =
-      let r : inputLines 0 (split s) ≡ refused k c.at = first-line ∙ ap (λ g. follow (read_by (λ n. n) s c.at g) behindTolerance) q in
+      let r : input_lines 0 (split s) ≡ refused k c.at = first-line ∙ ap (λ g. follow (read_by (λ n. n) s c.at g) behind_tolerance) q in
       (c.at, r ∙ ap (λ (n : ℕ). refused n c.at) (rw r at (input-form 0 (split s))))
 
-  pub tolerance : (w : ℕ) (d : Cursor) → g ≡ At w d → inputLines 0 (split s) ≡ behindTolerance w d.at (split (drop d.at s))
-  tolerance w d q = first-line ∙ ap (λ g. follow (read_by (λ n. n) s c.at g) behindTolerance) q
+  pub tolerance : (w : ℕ) (d : Cursor) → g ≡ At w d → input_lines 0 (split s) ≡ behind_tolerance w d.at (split (drop d.at s))
+  tolerance w d q = first-line ∙ ap (λ g. follow (read_by (λ n. n) s c.at g) behind_tolerance) q
 
 -- a line of times, behind which k goes on
-module _ (R : Reading Input) (s : List ℕ) (at : ℕ) (k : List ℕ → Reader Input) (e : R ≡ bind (line timesLine) k at (split (drop at s)))
-    (items : List ℕ) (x : Line) (h : LineRead (line timesLine at (split (drop at s))) s at items x) where
+module _ (R : Reading Input) (s : List ℕ) (at : ℕ) (k : List ℕ → Reader Input) (e : R ≡ bind (line times_line) k at (split (drop at s)))
+    (items : List ℕ) (x : Line) (h : LineRead (line times_line at (split (drop at s))) s at items x) where
   pub no-times : x ≡ Wrong → FormWrong R
-  no-times q = (at, e ∙ ap (λ M. follow M k) (subst (LineRead (line timesLine at (split (drop at s))) s at items) q h))
+  no-times q = (at, e ∙ ap (λ M. follow M k) (subst (LineRead (line times_line at (split (drop at s))) s at items) q h))
 
   pub times : (n : ℕ) (d : Cursor) → x ≡ Right n d → Gives R (λ xs. k xs d.at (split (drop d.at s))) items n
-  times n d q = let g : LineRead (line timesLine at (split (drop at s))) s at items (Right n d) = subst (LineRead (line timesLine at (split (drop at s))) s at items) q h in
+  times n d q = let g : LineRead (line times_line at (split (drop at s))) s at items (Right n d) = subst (LineRead (line times_line at (split (drop at s))) s at items) q h in
       record { times = g.times; is = e ∙ ap (λ M. follow M k) g.is; stored = g.stored }
 
 -- ---- The end.
-left_over : (at : ℕ) (l : List ℕ) → 0 < length l → endOfInput at (split l) ≡ refused form at
+left_over : (at : ℕ) (l : List ℕ) → 0 < length l → end_of_input at (split l) ≡ refused form at
 left_over at l h = go (split l) refl
   where
-    go : (rs : List Row) → split l ≡ rs → endOfInput at rs ≡ refused form at
+    go : (rs : List Row) → split l ≡ rs → end_of_input at rs ≡ refused form at
     go [] e = let n : length l ≡ 0 = ap length (sym (unsplit-split l) ∙ ap unsplit e) in absurd (omega arith)
     go (r ∷ rs) e = refl
 
 module _ (R : Reading Input) (s : List ℕ) (w : ℕ) (ms marks : List ℕ) (m : ℕ) (p : Stored ms marks m) (arrivals : List ℕ) (n at : ℕ)
-    (q : Gives R (λ xs. behindArrivals w ms xs at (split (drop at s))) arrivals n) where
+    (q : Gives R (λ xs. behind_arrivals w ms xs at (split (drop at s))) arrivals n) where
   pub more_left : at < length s → FormWrong R
   more_left h = (at, q.is ∙ rw (left_over at (drop at s) (omega (arith, length-drop at s))))
 

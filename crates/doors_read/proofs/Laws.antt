@@ -11,9 +11,9 @@ use lib.Seq.{take-suc-set}
 use borrow.Author.Tests.{eq-eqb, ne_eqb}
 use Rattle.spec_model.specs.Basics.{refuse, ok}
 use Rattle.spec_model.specs.Refusals.{form}
-use Rattle.spec_sheet.specs.Numbers.{Scan, fail, took, whole, isDigit, limit, digits, number}
-use Rattle.spec_doors.specs.Times.{maxTimes}
-use Rattle.spec_doors.specs.Input.{space, decimals, timesLine}
+use Rattle.spec_sheet.specs.Numbers.{Scan, fail, took, whole, is_digit, limit, digits, number}
+use Rattle.spec_doors.specs.Times.{max_times}
+use Rattle.spec_doors.specs.Input.{space, decimals, times_line}
 use Rattle.text_read.proofs.Laws.{at-end, from-here}
 use Rattle.doors_read.specs.View.{Stored, Gives}
 
@@ -29,7 +29,7 @@ fewer-more n (took x r) h = omega arith
 digits-fewer : (a : ℕ) (l : List ℕ) → Fewer (suc (length l)) (digits a l)
 unfolding digits
 digits-fewer a [] = omega arith
-digits-fewer a (b ∷ bs) = let n = limit (a * 10 + (b - 48)) in go (isDigit b) (digits n bs) (digits-fewer n bs)
+digits-fewer a (b ∷ bs) = let n = limit (a * 10 + (b - 48)) in go (is_digit b) (digits n bs) (digits-fewer n bs)
   where
     go : (t : Bool) (s : Scan ℕ) → Fewer (suc (length bs)) s → Fewer (suc (suc (length bs))) (cond t s (took a (b ∷ bs)))
     go true s h = fewer-more (suc (length bs)) s h
@@ -38,7 +38,7 @@ digits-fewer a (b ∷ bs) = let n = limit (a * 10 + (b - 48)) in go (isDigit b) 
 number-fewer : (l : List ℕ) → Fewer (length l) (number l)
 unfolding number
 number-fewer [] = tt
-number-fewer (b ∷ bs) = go (eqb b 48) (isDigit b)
+number-fewer (b ∷ bs) = go (eqb b 48) (is_digit b)
   where
     go : (s t : Bool) → Fewer (suc (length bs)) (cond s (took 0 bs) (cond t (digits (b - 48) bs) fail))
     go true t = omega arith
@@ -46,23 +46,23 @@ number-fewer (b ∷ bs) = go (eqb b 48) (isDigit b)
     go false false = tt
 
 -- ---- A store.
-module _ (old : List ℕ) (i x : ℕ) (new : List ℕ) (k : new ≡ set old i x) (size : length old ≡ maxTimes) where
-  pub same_size : length new ≡ maxTimes
+module _ (old : List ℕ) (i x : ℕ) (new : List ℕ) (k : new ≡ set old i x) (size : length old ≡ max_times) where
+  pub same_size : length new ≡ max_times
   same_size = ap length k ∙ length-set old i x ∙ size
 
-  one_more : i < maxTimes → take (i + 1) new ≡ take i old ++ x ∷ []
+  one_more : i < max_times → take (i + 1) new ≡ take i old ++ x ∷ []
   one_more h = ap (take (i + 1)) k ∙ rw (add-one i) (take-suc-set old i x (omega arith))
 
 -- ---- Where the loop stands: n times are read, and the rest begins at `at`.
 pub record Begun (l items : List ℕ) (at n : ℕ) : Type 0 where
   pub inside : at ≤ length l
   pub few : n ≤ at
-  pub size : length items ≡ maxTimes
+  pub size : length items ≡ max_times
   pub times : List ℕ
   pub stored : Stored times items n
   pub left : ℕ
   pub enough : length l ≤ at + left
-  pub rest : timesLine l ≡ whole (decimals left times (drop at l))
+  pub rest : times_line l ≡ whole (decimals left times (drop at l))
 
 -- a number stands at `at`, and the line goes on at `next`
 pub record Scanned (l : List ℕ) (at x next : ℕ) : Type 0 where
@@ -72,13 +72,13 @@ pub record Scanned (l : List ℕ) (at x next : ℕ) : Type 0 where
 none-stored : (items : List ℕ) → Stored [] items 0
 none-stored items = record { count = refl; there = λ h. refl }
 
-pub empty-line : (l items : List ℕ) → length l ≡ 0 → Gives (timesLine l) ok items 0
-unfolding timesLine
+pub empty-line : (l items : List ℕ) → length l ≡ 0 → Gives (times_line l) ok items 0
+unfolding times_line
 empty-line [] items h = record { times = []; is = refl; stored = none-stored items }
 empty-line (b ∷ bs) items h = absurd (omega arith)
 
-pub begin : (l items : List ℕ) → (length l ≡ 0 → ⊥) → length items ≡ maxTimes → Begun l items 0 0
-unfolding timesLine
+pub begin : (l items : List ℕ) → (length l ≡ 0 → ⊥) → length items ≡ max_times → Begun l items 0 0
+unfolding times_line
 begin [] items h s = absurd (h refl)
 begin (b ∷ bs) items h s = record {
   inside = omega arith;
@@ -92,7 +92,7 @@ begin (b ∷ bs) items h s = record {
 }
 
 module _ (l items : List ℕ) (at n : ℕ) (p : Begun l items at n) where
-  pub no_number : fail ≡ number (drop at l) → timesLine l ≡ refuse form
+  pub no_number : fail ≡ number (drop at l) → times_line l ≡ refuse form
   unfolding decimals
   no_number e = p.rest ∙ go p.left
     where
@@ -109,7 +109,7 @@ module _ (l items : List ℕ) (at n : ℕ) (p : Begun l items at n) where
     abbrev all : List ℕ
     all = p.times ++ x ∷ []
 
-    behind : timesLine l ≡ whole (space all (λ r. decimals (p.left - 1) all r) (drop next l))
+    behind : times_line l ≡ whole (space all (λ r. decimals (p.left - 1) all r) (drop next l))
     unfolding decimals
     behind = p.rest ∙ go p.left (omega (arith, onward, q.inside, p.enough))
       where
@@ -117,10 +117,10 @@ module _ (l items : List ℕ) (at n : ℕ) (p : Begun l items at n) where
         go zero h = absurd (omega arith)
         go (suc f) h = let e : suc f - 1 ≡ f = omega arith in rw (← q.is, e)
 
-    here : next < length l → timesLine l ≡ whole (cond (eqb (get_or l next 0) 32) (decimals (p.left - 1) all (drop (next + 1) l)) fail)
+    here : next < length l → times_line l ≡ whole (cond (eqb (get_or l next 0) 32) (decimals (p.left - 1) all (drop (next + 1) l)) fail)
     here h = behind ∙ ap (λ r. whole (space all (λ z. decimals (p.left - 1) all z) r)) (from-here l next h)
 
-    pub no-space : next < length l → (get_or l next 0 ≡ 32 → ⊥) → timesLine l ≡ refuse form
+    pub no-space : next < length l → (get_or l next 0 ≡ 32 → ⊥) → times_line l ≡ refuse form
     no-space h f = here h ∙ rw (ne_eqb (get_or l next 0) 32 f)
 
     -- the number is stored
@@ -131,7 +131,7 @@ module _ (l items : List ℕ) (at n : ℕ) (p : Begun l items at n) where
         there = λ h. one_more items n x new k p.size (omega arith) ∙ ap (λ ys. ys ++ x ∷ []) (p.stored.there (omega arith));
       }
 
-      pub last : next ≡ length l → Gives (timesLine l) ok new (n + 1)
+      pub last : next ≡ length l → Gives (times_line l) ok new (n + 1)
       last e = record { times = all; is = behind ∙ ap (λ r. whole (space all (λ z. decimals (p.left - 1) all z) r)) (at-end l next (omega arith)); stored = more }
 
       pub again : next < length l → get_or l next 0 ≡ 32 → Begun l new (next + 1) (n + 1)

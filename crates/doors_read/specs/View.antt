@@ -3,7 +3,7 @@ use Rattle.std.specs.Prelude.{◌≡◌, List, [], ℕ, ◌≤◌, length, take,
 use Rattle.spec_model.specs.Basics.{Res, refuse, ok}
 use Rattle.spec_model.specs.Refusals.{form}
 use Rattle.spec_sheet.specs.Lines.{split, Reading, refused, got}
-use Rattle.spec_doors.specs.Times.{maxTimes}
+use Rattle.spec_doors.specs.Times.{max_times}
 use Rattle.spec_doors.specs.Input.{Input}
 use Rattle.doors_read.specs.declared.TimesLine.{TimesLine}
 use Rattle.doors_read.specs.declared.TimesLine.TheVariants.{Wrong as Wrongᶜ, Right as Rightᶜ}
@@ -15,7 +15,7 @@ use Rattle.doors_read.specs.declared.Read.TheVariants.{Wrong as Wrongʳ, Right a
 -- The times are n, and they are the first n items where there is room for them.
 pub record Stored (times items : List ℕ) (n : ℕ) : Type 0 where
   pub count : length times ≡ n
-  pub there : n ≤ maxTimes → take n items ≡ times
+  pub there : n ≤ max_times → take n items ≡ times
 
 -- R is the result that some times give, n of them, and stored.
 pub record Gives {A : Type 0} (R : A) (give : List ℕ → A) (items : List ℕ) (n : ℕ) : Type 0 where

@@ -2,8 +2,8 @@
 // `spec_doors` (specs/View.antt). Whatever is refused here is a fault of form.
 ghost use Rattle.std.specs.Prelude.{◌≡◌, length, set, drop};
 ghost use Rattle.spec_sheet.specs.Lines.{split, line};
-ghost use Rattle.spec_doors.specs.Times.{maxTimes};
-ghost use Rattle.spec_doors.specs.Input.{timesLine, inputLines};
+ghost use Rattle.spec_doors.specs.Times.{max_times};
+ghost use Rattle.spec_doors.specs.Input.{times_line, input_lines};
 ghost use Rattle.doors_read.specs.View.{TimesRead, LineRead, InputRead};
 
 use doors_hold::TIMES;
@@ -37,7 +37,7 @@ pub enum Read {
 
 // Time i of a list; where there is no room for it, nothing is stored.
 fn store(items: &mut [u64; TIMES], i: usize, x: u64)
-    requires { length items.old ≡ maxTimes }
+    requires { length items.old ≡ max_times }
     ensures { items.new ≡ set items.old i x }
 {
     if i < TIMES {
@@ -47,9 +47,9 @@ fn store(items: &mut [u64; TIMES], i: usize, x: u64)
 
 // A line of times (P27). Those that there is no room for are counted: that they are too many is for V3 to say (P28).
 pub fn read_times(l: &[u8], items: &mut [u64; TIMES]) -> TimesLine
-    requires { length items.old ≡ maxTimes }
-    ensures is { TimesRead (timesLine l.now) items.new result }
-    ensures size { length items.new ≡ maxTimes }
+    requires { length items.old ≡ max_times }
+    ensures is { TimesRead (times_line l.now) items.new result }
+    ensures size { length items.new ≡ max_times }
 {
     if l.len() == 0 {
         return TimesLine::Right(0);
@@ -75,9 +75,9 @@ pub fn read_times(l: &[u8], items: &mut [u64; TIMES]) -> TimesLine
 
 // The line of times at the cursor. An empty line has no times, so a missing line, or one that no LF ends, is told by the cursor, which stays (S8, S9).
 pub fn next_times(s: &[u8], c: Cursor, items: &mut [u64; TIMES]) -> Line
-    requires { length items.old ≡ maxTimes }
-    ensures is { LineRead (line timesLine c.at (split (drop c.at s.now))) s.now c.at items.new result }
-    ensures size { length items.new ≡ maxTimes }
+    requires { length items.old ≡ max_times }
+    ensures is { LineRead (line times_line c.at (split (drop c.at s.now))) s.now c.at items.new result }
+    ensures size { length items.new ≡ max_times }
 {
     let d = next_line(s, c);
     if d.at <= c.at {
@@ -93,9 +93,9 @@ pub fn next_times(s: &[u8], c: Cursor, items: &mut [u64; TIMES]) -> Line
 
 // The three lines, and nothing behind them (P27). No number that is read is above the limit (S2), so that a tolerance of any size has the right form.
 pub fn read_input(s: &[u8], marks: &mut [u64; TIMES], arrivals: &mut [u64; TIMES]) -> Read
-    requires { (length marks.old ≡ maxTimes) × (length arrivals.old ≡ maxTimes) }
-    ensures is { InputRead (inputLines 0 (split s.now)) marks.new arrivals.new result }
-    ensures sizes { (length marks.new ≡ maxTimes) × (length arrivals.new ≡ maxTimes) }
+    requires { (length marks.old ≡ max_times) × (length arrivals.old ≡ max_times) }
+    ensures is { InputRead (input_lines 0 (split s.now)) marks.new arrivals.new result }
+    ensures sizes { (length marks.new ≡ max_times) × (length arrivals.new ≡ max_times) }
 {
     let g = text_read::next_number(s, Cursor::start(), b"within=", 0, LIMIT);
     let Got::At(w, c) = g else {

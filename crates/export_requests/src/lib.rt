@@ -4,10 +4,10 @@
 ghost use Rattle.std.specs.Prelude.{◌≡◌};
 ghost use Rattle.std.proofs.Math.Option.{some};
 ghost use Rattle.spec_model.specs.Requests.{Request, new, move, call, answer};
-ghost use Rattle.spec_model.specs.Coded.{byCode};
+ghost use Rattle.spec_model.specs.Coded.{by_code};
 ghost use Rattle.state_bytes.specs.Flat.{flat};
-ghost use Rattle.request_results.specs.States.{Handed, lentState};
-ghost use Rattle.request_operands.specs.Given.{givenIn};
+ghost use Rattle.request_results.specs.States.{Handed, lent_state};
+ghost use Rattle.request_operands.specs.Given.{given_in};
 
 use base_numbers::refusal;
 use state_bytes::{CALL_BYTES, CELL_BYTES, PLACE_BYTES};
@@ -26,11 +26,11 @@ fn serve_bytes(
     ops: &[i64],
     values: &mut [i64; 3],
 ) -> usize
-    ensures { (q : Request) → byCode code ops.now ≡ some q
+    ensures { (q : Request) → by_code code ops.now ≡ some q
         → Handed q result
-        (lentState (flat types.old links.now cells.old places.old calls.old counts.old)
+        (lent_state (flat types.old links.now cells.old places.old calls.old counts.old)
         values.old)
-        (lentState (flat types.new links.now cells.new places.new calls.new counts.new)
+        (lent_state (flat types.new links.now cells.new places.new calls.new counts.new)
         values.new) }
 {
     if !state_bytes::codes_fit(places, calls, counts[6], counts[7]) {
@@ -56,9 +56,9 @@ pub extern "C" fn pilgonca_new(
     values: &mut [i64; 3],
 ) -> usize
     ensures { Handed (new subject class to) result
-        (lentState (flat types.old links.now cells.old places.old calls.old counts.old)
+        (lent_state (flat types.old links.now cells.old places.old calls.old counts.old)
         values.old)
-        (lentState (flat types.new links.now cells.new places.new calls.new counts.new)
+        (lent_state (flat types.new links.now cells.new places.new calls.new counts.new)
         values.new) }
 {
     let ops = [subject, class, to];
@@ -91,9 +91,9 @@ pub extern "C" fn pilgonca_move(
     values: &mut [i64; 3],
 ) -> usize
     ensures { Handed (move subject cell receiver to) result
-        (lentState (flat types.old links.now cells.old places.old calls.old counts.old)
+        (lent_state (flat types.old links.now cells.old places.old calls.old counts.old)
         values.old)
-        (lentState (flat types.new links.now cells.new places.new calls.new counts.new)
+        (lent_state (flat types.new links.now cells.new places.new calls.new counts.new)
         values.new) }
 {
     let ops = [subject, cell, receiver, to];
@@ -126,9 +126,9 @@ pub extern "C" fn pilgonca_call(
     values: &mut [i64; 3],
 ) -> usize
     ensures { Handed (call subject cell method arguments.now) result
-        (lentState (flat types.old links.now cells.old places.old calls.old counts.old)
+        (lent_state (flat types.old links.now cells.old places.old calls.old counts.old)
         values.old)
-        (lentState (flat types.new links.now cells.new places.new calls.new counts.new)
+        (lent_state (flat types.new links.now cells.new places.new calls.new counts.new)
         values.new) }
 {
     let o = request_operands::call_operands(subject, cell, method, arguments);
@@ -162,10 +162,10 @@ pub extern "C" fn pilgonca_answer(
     value: i64,
     values: &mut [i64; 3],
 ) -> usize
-    ensures { Handed (answer subject call (givenIn given value)) result
-        (lentState (flat types.old links.now cells.old places.old calls.old counts.old)
+    ensures { Handed (answer subject call (given_in given value)) result
+        (lent_state (flat types.old links.now cells.old places.old calls.old counts.old)
         values.old)
-        (lentState (flat types.new links.now cells.new places.new calls.new counts.new)
+        (lent_state (flat types.new links.now cells.new places.new calls.new counts.new)
         values.new) }
 {
     let ops = [subject, call, value];

@@ -1,12 +1,12 @@
 // C functions on a state in flat bytes (B25 to B29, E11, E12) beside the single requests (crate export_requests): the state of a loaded sheet, offers, and a
 // run of requests, for any bytes and any numbers.
 ghost use Rattle.std.specs.Prelude.{◌≡◌};
-ghost use Rattle.spec_sheet.specs.Sheet.{read as readSheet};
-ghost use Rattle.state_bytes.specs.Flat.{flat, rawFlat, cellsSize, placesSize, callsSize};
-ghost use Rattle.state_offers.specs.Chained.{offersHanded, offeredAs};
-ghost use Rattle.request_run.specs.Requested.{runHanded};
+ghost use Rattle.spec_sheet.specs.Sheet.{read as read_sheet};
+ghost use Rattle.state_bytes.specs.Flat.{flat, raw_flat, cells_size, places_size, calls_size};
+ghost use Rattle.state_offers.specs.Chained.{offers_handed, offered_as};
+ghost use Rattle.request_run.specs.Requested.{run_handed};
 ghost use Rattle.request_run.specs.Ran.{room};
-ghost use Rattle.export_runs.specs.Results.{offeredOut, noBytes, LoadedIs, lentRun, RunsOut};
+ghost use Rattle.export_runs.specs.Results.{offered_out, no_bytes, LoadedIs, lent_run, RunsOut};
 
 use base_numbers::refusal;
 use state_bytes::{CALL_BYTES, CELL_BYTES, PLACE_BYTES};
@@ -15,7 +15,7 @@ use state_record::State;
 use table_record::{LINK_BYTES, TYPE_BYTES};
 
 fn clear(cells: &mut [u8; CELL_BYTES], places: &mut [u8; PLACE_BYTES], calls: &mut [u8; CALL_BYTES])
-    ensures { (cells.new ≡ noBytes cellsSize) × (places.new ≡ noBytes placesSize) × (calls.new ≡ noBytes callsSize) }
+    ensures { (cells.new ≡ no_bytes cells_size) × (places.new ≡ no_bytes places_size) × (calls.new ≡ no_bytes calls_size) }
 {
     *cells = [0u8; CELL_BYTES];
     *places = [0u8; PLACE_BYTES];
@@ -34,7 +34,7 @@ pub extern "C" fn pilgonca_load(
     counts: &mut [usize; 8],
     at: &mut usize,
 ) -> usize
-    ensures { LoadedIs (readSheet text.now) result at.new
+    ensures { LoadedIs (read_sheet text.now) result at.new
         (flat types.new links.new cells.new places.new calls.new counts.new) }
 {
     let r = sheet_read::read(text);
@@ -52,7 +52,7 @@ pub extern "C" fn pilgonca_load(
 
 // The number of what is offered, and 0 or 1 beside it.
 fn offered_code(o: Offered, offered: &mut usize) -> usize
-    ensures { (result, offered.new) ≡ offeredOut offered.old (offeredAs o) }
+    ensures { (result, offered.new) ≡ offered_out offered.old (offered_as o) }
 {
     match o {
         Offered::Unfit => refusal::OUT_OF_RANGE,
@@ -81,9 +81,9 @@ pub extern "C" fn pilgonca_offers(
     offered: &mut usize,
 ) -> usize
     ensures { (result, offered.new)
-        ≡ offeredOut offered.old
-        (offersHanded
-        (rawFlat
+        ≡ offered_out offered.old
+        (offers_handed
+        (raw_flat
         (flat types.now links.now cells.now places.now calls.now counts.now)) cell
         chain.now) }
 {
@@ -105,12 +105,12 @@ pub extern "C" fn pilgonca_run(
     served: &mut usize,
 ) -> usize
     ensures { RunsOut
-        (runHanded
-        (rawFlat (flat types.old links.now cells.old places.old calls.old counts.old))
+        (run_handed
+        (raw_flat (flat types.old links.now cells.old places.old calls.old counts.old))
         (room answers.old) words.now) result
-        (lentRun (flat types.old links.now cells.old places.old calls.old counts.old)
+        (lent_run (flat types.old links.now cells.old places.old calls.old counts.old)
         answers.old served.old)
-        (lentRun (flat types.new links.now cells.new places.new calls.new counts.new)
+        (lent_run (flat types.new links.now cells.new places.new calls.new counts.new)
         answers.new served.new) }
 {
     if !state_bytes::codes_fit(places, calls, counts[6], counts[7]) {

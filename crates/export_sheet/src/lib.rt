@@ -1,9 +1,9 @@
 // The reader as a C function (E2, E12), in a library of its own: who only asks whether a sheet is accepted waits for no other proof. The table that it stores
 // is three arrays, as in export_table.
 ghost use Rattle.std.specs.Prelude.{◌≡◌};
-ghost use Rattle.table_record.specs.Layout.{countsIn};
-ghost use Rattle.spec_sheet.specs.Sheet.{read as readSheet};
-ghost use Rattle.sheet_read.specs.View.{sheetFor, sheetOf};
+ghost use Rattle.table_record.specs.Layout.{counts_in};
+ghost use Rattle.spec_sheet.specs.Sheet.{read as read_sheet};
+ghost use Rattle.sheet_read.specs.View.{sheet_for, sheet_of};
 
 use table_record::{LINK_BYTES, TYPE_BYTES};
 
@@ -17,8 +17,8 @@ pub extern "C" fn pilgonca_read(
     counts: &mut [usize; 5],
     at: &mut usize,
 ) -> usize
-    ensures { sheetOf result at.new types.new links.new (countsIn counts.new)
-        ≡ sheetFor (readSheet text.now) }
+    ensures { sheet_of result at.new types.new links.new (counts_in counts.new)
+        ≡ sheet_for (read_sheet text.now) }
 {
     let r = sheet_read::read_into(text, types, links);
     let c = r.counts;

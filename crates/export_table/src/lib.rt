@@ -2,16 +2,16 @@
 // the bytes of its types, those of its links, and five counts in the order of B12; docs/SPEC.md, section B, has the layout. The numbers returned are given by
 // definitions in specs/Codes.antt.
 ghost use Rattle.std.specs.Prelude.{◌≡◌, ◌+◌};
-ghost use Rattle.spec_model.specs.Check.{compareHanded};
-ghost use Rattle.table_record.specs.Store.{rawTable};
-ghost use Rattle.relation_compare.specs.Comparing.{comparisonOf};
-ghost use Rattle.relation_compare.specs.Compared.{comparedOf};
-ghost use Rattle.relation_compare.specs.Pairs.{pairsHanded};
-ghost use Rattle.derive_entry.specs.Handed.{deriveHanded};
+ghost use Rattle.spec_model.specs.Check.{compare_handed};
+ghost use Rattle.table_record.specs.Store.{raw_table};
+ghost use Rattle.relation_compare.specs.Comparing.{comparison_of};
+ghost use Rattle.relation_compare.specs.Compared.{compared_of};
+ghost use Rattle.relation_compare.specs.Pairs.{pairs_handed};
+ghost use Rattle.derive_entry.specs.Handed.{derive_handed};
 ghost use Rattle.spec_sheet.specs.Text.{write};
 ghost use Rattle.text_write.specs.Written.{WrittenIs};
-ghost use Rattle.state_bytes.specs.Flat.{countsIn};
-ghost use Rattle.export_table.specs.Codes.{comparisonCode, comparedCode, handedOut, DerivedIs, lent};
+ghost use Rattle.state_bytes.specs.Flat.{counts_in};
+ghost use Rattle.export_table.specs.Codes.{comparison_code, compared_code, handed_out, DerivedIs, lent};
 
 use base_numbers::{refusal, wide};
 use derive_entry::Made;
@@ -20,7 +20,7 @@ use table_record::{Counts, LINK_BYTES, TYPE_BYTES};
 
 // A table's counts from five numbers in a row.
 fn counts_of(n: [usize; 5]) -> Counts
-    ensures { result ≡ countsIn n }
+    ensures { result ≡ counts_in n }
 {
     Counts {
         subjects: n[0],
@@ -33,7 +33,7 @@ fn counts_of(n: [usize; 5]) -> Counts
 
 // A comparison as one number.
 fn comparison_code(a: Comparison) -> usize
-    ensures { result ≡ comparisonCode (comparisonOf a) }
+    ensures { result ≡ comparison_code (comparison_of a) }
 {
     let code = relation_compare::pair_code(a);
     16 + wide(code)
@@ -41,7 +41,7 @@ fn comparison_code(a: Comparison) -> usize
 
 // What Compare comes to as one number.
 fn compared_code(r: Compared) -> usize
-    ensures { result ≡ comparedCode (comparedOf r) }
+    ensures { result ≡ compared_code (compared_of r) }
 {
     match r {
         Compared::Unfit => refusal::OUT_OF_RANGE,
@@ -59,7 +59,7 @@ pub extern "C" fn pilgonca_compare(
     t: i64,
     s: i64,
 ) -> usize
-    ensures { result ≡ comparedCode (compareHanded (rawTable types.now links.now (countsIn counts.now)) t s) }
+    ensures { result ≡ compared_code (compare_handed (raw_table types.now links.now (counts_in counts.now)) t s) }
 {
     let c = counts_of(*counts);
     let r = relation_compare::compare_types(types, links, c, t, s);
@@ -75,7 +75,7 @@ pub extern "C" fn pilgonca_write(
     counts: &[usize; 5],
     length: &mut usize,
 ) -> usize
-    ensures { WrittenIs (write (rawTable types.now links.now (countsIn counts.now)) buffer.old) result
+    ensures { WrittenIs (write (raw_table types.now links.now (counts_in counts.now)) buffer.old) result
         length.old length.new buffer.new }
 {
     let c = counts_of(*counts);
@@ -92,7 +92,7 @@ pub extern "C" fn pilgonca_pairs(
     out: &mut [u8; PAIR_BYTES],
 ) -> usize
     ensures { (result, out.new)
-        ≡ handedOut out.old (pairsHanded (rawTable types.now links.now (countsIn counts.now))) }
+        ≡ handed_out out.old (pairs_handed (raw_table types.now links.now (counts_in counts.now))) }
 {
     let c = counts_of(*counts);
     let r = relation_compare::pairs_of(types, links, c);
@@ -117,7 +117,7 @@ pub extern "C" fn pilgonca_derive(
     number: &mut usize,
 ) -> usize
     ensures { DerivedIs links.now
-        (deriveHanded (rawTable types.old links.now (countsIn counts.old)) kind t s) result
+        (derive_handed (raw_table types.old links.now (counts_in counts.old)) kind t s) result
         (lent types.old counts.old number.old) (lent types.new counts.new number.new) }
 {
     let c = counts_of(*counts);

@@ -5,27 +5,27 @@ use mathlib.Core.List.{[], ◌∷◌, map}
 use Prim.Native.Nat.{ℕ}
 use lib.IntN.{ℤ, pos, negsuc}
 use Rattle.spec_model.specs.Basics.{Res, refuse, ok}
-use Rattle.spec_model.specs.Table.{w32, w64, denied, optional, avail, unavail, Table, validSheet, bare}
+use Rattle.spec_model.specs.Table.{w32, w64, denied, optional, avail, unavail, Table, valid_sheet, bare}
 use Rattle.spec_model.specs.Relations.{Comparison, compare}
-use Rattle.spec_model.proofs.CasesWords.{typeIn, owned, number_in, sheetIn}
+use Rattle.spec_model.proofs.CasesWords.{type_in, owned, number_in, sheet_in}
 
 -- Categories 1 and 3 have none broader, 2 names 1. Types 0 to 3 differ in category alone, 4 and 5 are numbers, 6 to 8 have category 0 and another state, 9 is 0 with own.
 abbrev kinds : Table
-kinds = sheetIn ((0 ∷ []) ∷ (1 ∷ []) ∷ (0 ∷ []) ∷ []) 1 1 (
-    typeIn 0 (bare avail ∷ [])
-    ∷ typeIn 1 (bare avail ∷ [])
-    ∷ typeIn 2 (bare avail ∷ [])
-    ∷ typeIn 3 (bare avail ∷ [])
+kinds = sheet_in ((0 ∷ []) ∷ (1 ∷ []) ∷ (0 ∷ []) ∷ []) 1 1 (
+    type_in 0 (bare avail ∷ [])
+    ∷ type_in 1 (bare avail ∷ [])
+    ∷ type_in 2 (bare avail ∷ [])
+    ∷ type_in 3 (bare avail ∷ [])
     ∷ number_in w32 1
     ∷ number_in w64 2
-    ∷ typeIn 0 (bare optional ∷ [])
-    ∷ typeIn 0 (bare unavail ∷ [])
-    ∷ typeIn 0 (bare denied ∷ [])
+    ∷ type_in 0 (bare optional ∷ [])
+    ∷ type_in 0 (bare unavail ∷ [])
+    ∷ type_in 0 (bare denied ∷ [])
     ∷ owned (bare avail ∷ [])
     ∷ [])
 
-pub kinds-valid : validSheet kinds ≡ true
-unfolding validSheet
+pub kinds-valid : valid_sheet kinds ≡ true
+unfolding valid_sheet
 kinds-valid = refl
 
 abbrev says : Bool → Bool → Bool → Bool → Res Comparison

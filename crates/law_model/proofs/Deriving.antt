@@ -9,8 +9,8 @@ use lib.Dec.{ltb}
 use lib.ListN.{set, length-append, length-set, get_or-append}
 use lib.Seq.{get_or-set_other}
 use Rattle.spec_model.specs.Basics.{then}
-use Rattle.spec_model.specs.Table.{Kind, Method, Ty, Table, noType, maxTypes, size, type_at, withTypes, permit, signed, bare}
-use Rattle.spec_model.specs.Restriction.{restricted, argKind, answerKind, withoutNew, entry, pending, Derivation, deriveArgs, deriveAnswer, deriveMethod, deriveMethods, make, derive}
+use Rattle.spec_model.specs.Table.{Kind, Method, Ty, Table, no_type, max_types, size, type_at, with_types, permit, signed, bare}
+use Rattle.spec_model.specs.Restriction.{restricted, arg_kind, answer_kind, without_new, entry, pending, Derivation, derive_args, derive_answer, derive_method, derive_methods, make, derive}
 use Rattle.spec_model.proofs.Tests.{ltb-so}
 use Rattle.spec_model.proofs.Growth.{Grown, grown-refl, grown-trans}
 
@@ -40,10 +40,10 @@ some-room Q true rest h = h refl
 
 -- a table with one type more, and with a type stored anew
 abbrev pub pushed : Table → Ty → Table
-pushed t e = withTypes t (t.types ++ (e ∷ []))
+pushed t e = with_types t (t.types ++ (e ∷ []))
 
 abbrev pub stored : Table → ℕ → Ty → Table
-stored t n e = withTypes t (set t.types n e)
+stored t n e = with_types t (set t.types n e)
 
 pub pushed-size : (t : Table) (e : Ty) → size (pushed t e) ≡ suc (size t)
 pushed-size t e = length-append t.types (e ∷ []) ∙ omega arith
@@ -52,48 +52,48 @@ pub stored-size : (t : Table) (n : ℕ) (e : Ty) → size (stored t n e) ≡ siz
 stored-size t n e = length-set t.types n e
 
 pub pushed-grown : (t : Table) (e : Ty) → Grown t (pushed t e)
-pushed-grown t e = record { subjects = refl; methods = refl; cats = refl; sheet = refl; more = omega (arith, pushed-size t e); same = λ i l. get_or-append t.types (e ∷ []) noType i l }
+pushed-grown t e = record { subjects = refl; methods = refl; cats = refl; sheet = refl; more = omega (arith, pushed-size t e); same = λ i l. get_or-append t.types (e ∷ []) no_type i l }
 
 -- A new type keeps P: it is pushed, those of its signatures are derived, and it is stored anew.
 abbrev pub New : (Table → Table → Type 0) → Type 0
-New P = (t u : Table) (e e' : Ty) → size t < maxTypes → P (pushed t e) u → P t (stored u (size t) e')
+New P = (t u : Table) (e e' : Ty) → size t < max_types → P (pushed t e) u → P t (stored u (size t) e')
 
 module _ (P : Table → Table → Type 0) (at_once : (t : Table) → P t t) (onward : (t u v : Table) → P t u → P u v → P t v) (new : New P) where
   abbrev pub Keeping : Derivation → Type 0
   Keeping rec = (t : Table) (d : Kind) (l r : ℕ) → IfSome (rec t d l r) (λ x. P t x.0)
 
   module _ (rec : Derivation) (g : Keeping rec) (d : Kind) where
-    pub args-kept : (xs ys : List ℕ) (t : Table) → IfSome (deriveArgs rec d t xs ys) (λ x. P t x.0)
-    unfolding deriveArgs
+    pub args-kept : (xs ys : List ℕ) (t : Table) → IfSome (derive_args rec d t xs ys) (λ x. P t x.0)
+    unfolding derive_args
     args-kept [] ys t = at_once t
     args-kept (x ∷ xs) [] t = at_once t
-    args-kept (x ∷ xs) (y ∷ ys) t = some_then _ _ (rec t (argKind d) y x) _ (g t (argKind d) y x) λ a p. some_then _ _ (deriveArgs rec d a.0 xs ys) _ (args-kept xs ys a.0) λ b q.
+    args-kept (x ∷ xs) (y ∷ ys) t = some_then _ _ (rec t (arg_kind d) y x) _ (g t (arg_kind d) y x) λ a p. some_then _ _ (derive_args rec d a.0 xs ys) _ (args-kept xs ys a.0) λ b q.
         onward t a.0 b.0 p q
 
-    answer-kept : (x y : Option ℕ) (t : Table) → IfSome (deriveAnswer rec d t x y) (λ x. P t x.0)
-    unfolding deriveAnswer
+    answer-kept : (x y : Option ℕ) (t : Table) → IfSome (derive_answer rec d t x y) (λ x. P t x.0)
+    unfolding derive_answer
     answer-kept none y t = at_once t
     answer-kept (some x) none t = at_once t
-    answer-kept (some x) (some y) t = some_then _ _ (rec t (answerKind d) x y) _ (g t (answerKind d) x y) λ a p. p
+    answer-kept (some x) (some y) t = some_then _ _ (rec t (answer_kind d) x y) _ (g t (answer_kind d) x y) λ a p. p
 
-    pub method-kept : (x y : Method) (t : Table) → IfSome (deriveMethod rec d t x y) (λ x. P t x.0)
-    unfolding deriveMethod
+    pub method-kept : (x y : Method) (t : Table) → IfSome (derive_method rec d t x y) (λ x. P t x.0)
+    unfolding derive_method
     method-kept x y t = go (permit (restricted d x.state y.state))
       where
         go : (b : Bool) → IfSome {A = Table × Method} (elim b [
           | false ↦ some (t, bare (restricted d x.state y.state))
-          | true ↦ then (deriveArgs rec d t x.args y.args) λ p. then (deriveAnswer rec d p.0 x.answer y.answer) λ q.
+          | true ↦ then (derive_args rec d t x.args y.args) λ p. then (derive_answer rec d p.0 x.answer y.answer) λ q.
               some (q.0, signed (restricted d x.state y.state) p.1 q.1)
         ]) (λ x. P t x.0)
         go false = at_once t
-        go true = some_then _ _ (deriveArgs rec d t x.args y.args) _ (args-kept x.args y.args t) λ a p.
-            some_then _ _ (deriveAnswer rec d a.0 x.answer y.answer) _ (answer-kept x.answer y.answer a.0) λ b q. onward t a.0 b.0 p q
+        go true = some_then _ _ (derive_args rec d t x.args y.args) _ (args-kept x.args y.args t) λ a p.
+            some_then _ _ (derive_answer rec d a.0 x.answer y.answer) _ (answer-kept x.answer y.answer a.0) λ b q. onward t a.0 b.0 p q
 
-    methods-kept : (xs ys : List Method) (t : Table) → IfSome (deriveMethods rec d t xs ys) (λ x. P t x.0)
-    unfolding deriveMethods
+    methods-kept : (xs ys : List Method) (t : Table) → IfSome (derive_methods rec d t xs ys) (λ x. P t x.0)
+    unfolding derive_methods
     methods-kept [] ys t = at_once t
     methods-kept (x ∷ xs) [] t = at_once t
-    methods-kept (x ∷ xs) (y ∷ ys) t = some_then _ _ (deriveMethod rec d t x y) _ (method-kept x y t) λ a p. some_then _ _ (deriveMethods rec d a.0 xs ys) _ (methods-kept xs ys a.0) λ b q.
+    methods-kept (x ∷ xs) (y ∷ ys) t = some_then _ _ (derive_method rec d t x y) _ (method-kept x y t) λ a p. some_then _ _ (derive_methods rec d a.0 xs ys) _ (methods-kept xs ys a.0) λ b q.
         onward t a.0 b.0 p q
 
   known_kept : (t : Table) (o : Option ℕ) → IfSome o (λ i. P t t)
@@ -102,15 +102,15 @@ module _ (P : Table → Table → Type 0) (at_once : (t : Table) → P t t) (onw
 
   make-kept : (rec : Derivation) → Keeping rec → Keeping (make rec)
   unfolding make
-  make-kept rec g t d l r = some-pick (λ x. P t x.0) t (withoutNew t d l r) _ (known_kept t (withoutNew t d l r))
-      (some-room (λ x. P t x.0) (ltb (size t) maxTypes) _ λ h.
-      some_then _ (λ x. P t x.0) (deriveMethods rec d (pushed t (pending t d l r)) (type_at t l).methods (type_at t r).methods) _
+  make-kept rec g t d l r = some-pick (λ x. P t x.0) t (without_new t d l r) _ (known_kept t (without_new t d l r))
+      (some-room (λ x. P t x.0) (ltb (size t) max_types) _ λ h.
+      some_then _ (λ x. P t x.0) (derive_methods rec d (pushed t (pending t d l r)) (type_at t l).methods (type_at t r).methods) _
       (methods-kept rec g d (type_at t l).methods (type_at t r).methods (pushed t (pending t d l r)))
       λ p q. new t p.0 (pending t d l r) (entry t d l r p.1) (ltb-so h) q)
 
   pub derive-kept : (f : ℕ) → Keeping (derive f)
   unfolding derive
-  derive-kept zero t d l r = some-pick (λ x. P t x.0) t (withoutNew t d l r) none (known_kept t (withoutNew t d l r)) tt
+  derive-kept zero t d l r = some-pick (λ x. P t x.0) t (without_new t d l r) none (known_kept t (without_new t d l r)) tt
   derive-kept (suc f) t d l r = make-kept (derive f) (derive-kept f) t d l r
 
 -- A table never shrinks,
@@ -131,7 +131,7 @@ derive-larger = derive-kept Larger larger-once larger-onward larger-new
 
 -- never goes past 128 types,
 abbrev pub Roomy : Table → Table → Type 0
-Roomy t u = size t ≤ maxTypes → size u ≤ maxTypes
+Roomy t u = size t ≤ max_types → size u ≤ max_types
 
 pub derive-roomy : (f : ℕ) (t : Table) (d : Kind) (l r : ℕ) → IfSome (derive f t d l r) (λ x. Roomy t x.0)
 derive-roomy = derive-kept Roomy (λ t h. h) (λ t u v p q h. q (p h)) λ t u e e' h p k.
@@ -147,5 +147,5 @@ derive-grown = derive-kept Grown grown-refl (λ t u v. grown-trans) λ t u e e' 
       cats = m.cats;
       sheet = m.sheet;
       more = omega (arith, m.more, stored-size u (size t) e');
-      same = λ i s. get_or-set_other u.types (size t) i e' noType (λ z. let w : i ≡ size t = z in omega arith) ∙ m.same i s;
+      same = λ i s. get_or-set_other u.types (size t) i e' no_type (λ z. let w : i ≡ size t = z in omega arith) ∙ m.same i s;
     }

@@ -9,10 +9,10 @@ use native.Mathlib.Omega.{arith}
 use native.Mathlib.Decide.{dec_lt}
 use lib.Dec.{eqb, ltb, leb}
 use lib.ListN.{length, get_or, get_or-eq_default}
-use Rattle.spec_model.specs.Basics.{◌⇒◌, any, all, every, unlessMissing, AllBelow}
-use Rattle.spec_model.specs.Table.{Key, Method, Ty, Table, noMethod, noType, size, type_at, methodAt, isRef, permit, maxArguments, maxTypes, between, countsFit, linksFit, standsIn, is_none, isNil}
-use Rattle.spec_model.specs.Table.{signatureFits, methodCount, keyFits, signatureBound, typeFits, tableFits, maxCategories}
-use Rattle.spec_model.specs.Relations.{reaches, broader, catLe}
+use Rattle.spec_model.specs.Basics.{◌⇒◌, any, all, every, unless_missing, AllBelow}
+use Rattle.spec_model.specs.Table.{Key, Method, Ty, Table, no_method, no_type, size, type_at, method_at, is_ref, permit, max_arguments, max_types, between, counts_fit, links_fit, stands_in, is_none, is_nil}
+use Rattle.spec_model.specs.Table.{signature_fits, method_count, key_fits, signature_bound, type_fits, table_fits, max_categories}
+use Rattle.spec_model.specs.Relations.{reaches, broader, cat_le}
 use Rattle.spec_model.proofs.Tests.{eqb-so, eqb-self, ltb-so, leb-so, so-ltb}
 use Rattle.spec_model.proofs.Rules.{never, both, first, second}
 use Rattle.spec_model.proofs.Derived.{AnswerBelow, CategoryOrder, SignaturesIn}
@@ -91,11 +91,11 @@ module _ (cs : List (List ℕ)) (descends : (k : ℕ) → AllBelow k (get_or cs 
       go (yes u) (suc f) h = reach-cases f a b h (near n a b) (λ k. never (rw (get_or-eq_default cs [] {n = b} (omega arith)) at k))
       go (no u) f h = cut f n a b (omega arith) h
 
-category-order : (t : Table) → ((k : ℕ) → AllBelow k (get_or (broader t) k [])) → length (broader t) ≤ suc maxCategories → CategoryOrder t
-unfolding W catLe
+category-order : (t : Table) → ((k : ℕ) → AllBelow k (get_or (broader t) k [])) → length (broader t) ≤ suc max_categories → CategoryOrder t
+unfolding W cat_le
 category-order t descends l = let cs = broader t in record {
-  self = λ a. near cs descends (suc maxCategories) a a (or_right (eqb a 0) (eqb-self a));
-  through = λ a b c h k. enough cs descends (suc maxCategories) c a c l (trans cs descends (suc maxCategories) a b c (cut cs descends (suc maxCategories) b a b (omega arith) h) k);
+  self = λ a. near cs descends (suc max_categories) a a (or_right (eqb a 0) (eqb-self a));
+  through = λ a b c h k. enough cs descends (suc max_categories) c a c l (trans cs descends (suc max_categories) a b c (cut cs descends (suc max_categories) b a b (omega arith) h) k);
 }
 
 -- ---- tests over lists
@@ -127,7 +127,7 @@ not_so : (b : Bool) → So (not b) → b ≡ false
 not_so true h = never h
 not_so false h = refl
 
-pub nil_is : (xs : List ℕ) → So (isNil xs) → xs ≡ []
+pub nil_is : (xs : List ℕ) → So (is_nil xs) → xs ≡ []
 nil_is [] h = refl
 nil_is (x ∷ xs) h = never h
 
@@ -136,44 +136,44 @@ none_is none h = refl
 none_is (some x) h = never h
 
 module _ (t : Table) (n : ℕ) where
-  stands-below : (xs : List ℕ) → So (all (standsIn t n) xs) → AllBelow n xs
+  stands-below : (xs : List ℕ) → So (all (stands_in t n) xs) → AllBelow n xs
   stands-below [] h = tt
-  stands-below (x ∷ xs) h = (ltb-so (first (ltb x n) _ (first (standsIn t n x) _ h)), stands-below xs (second (standsIn t n x) _ h))
+  stands-below (x ∷ xs) h = (ltb-so (first (ltb x n) _ (first (stands_in t n x) _ h)), stands-below xs (second (stands_in t n x) _ h))
 
-  stands-unowned : (xs : List ℕ) → So (all (standsIn t n) xs) → AllUnowned t xs
+  stands-unowned : (xs : List ℕ) → So (all (stands_in t n) xs) → AllUnowned t xs
   stands-unowned [] h = tt
-  stands-unowned (x ∷ xs) h = (not_so (type_at t x).own_val (second (ltb x n) _ (first (standsIn t n x) _ h)), stands-unowned xs (second (standsIn t n x) _ h))
+  stands-unowned (x ∷ xs) h = (not_so (type_at t x).own (second (ltb x n) _ (first (stands_in t n x) _ h)), stands-unowned xs (second (stands_in t n x) _ h))
 
-  answer-stands-below : (o : Option ℕ) → So (unlessMissing o (standsIn t n)) → AnswerBelow n o
+  answer-stands-below : (o : Option ℕ) → So (unless_missing o (stands_in t n)) → AnswerBelow n o
   answer-stands-below none h = tt
   answer-stands-below (some x) h = ltb-so (first (ltb x n) _ h)
 
-  answer-stands-unowned : (o : Option ℕ) → So (unlessMissing o (standsIn t n)) → AnswerUnowned t o
+  answer-stands-unowned : (o : Option ℕ) → So (unless_missing o (stands_in t n)) → AnswerUnowned t o
   answer-stands-unowned none h = tt
-  answer-stands-unowned (some x) h = not_so (type_at t x).own_val (second (ltb x n) _ h)
+  answer-stands-unowned (some x) h = not_so (type_at t x).own (second (ltb x n) _ h)
 
   -- a signature that fits: its numbers are below n and have no own flag
-  pub signature-below : (m : Method) → So (signatureFits t n m) → AllBelow n m.args × AnswerBelow n m.answer
+  pub signature-below : (m : Method) → So (signature_fits t n m) → AllBelow n m.args × AnswerBelow n m.answer
   signature-below m h = go (permit m.state) h
     where
       go : (b : Bool) → So
-          (elim b [ true ↦ leb (length m.args) maxArguments && (all (standsIn t n) m.args && unlessMissing m.answer (standsIn t n)) | false ↦ isNil m.args && is_none m.answer ])
+          (elim b [ true ↦ leb (length m.args) max_arguments && (all (stands_in t n) m.args && unless_missing m.answer (stands_in t n)) | false ↦ is_nil m.args && is_none m.answer ])
           → AllBelow n m.args × AnswerBelow n m.answer
       go true h =
-          let k = second (leb (length m.args) maxArguments) _ h in
-          (stands-below m.args (first (all (standsIn t n) m.args) _ k), answer-stands-below m.answer (second (all (standsIn t n) m.args) _ k))
-      go false h = rw (nil_is m.args (first (isNil m.args) _ h), none_is m.answer (second (isNil m.args) _ h)) (tt, tt)
+          let k = second (leb (length m.args) max_arguments) _ h in
+          (stands-below m.args (first (all (stands_in t n) m.args) _ k), answer-stands-below m.answer (second (all (stands_in t n) m.args) _ k))
+      go false h = rw (nil_is m.args (first (is_nil m.args) _ h), none_is m.answer (second (is_nil m.args) _ h)) (tt, tt)
 
-  pub signature-unowned : (m : Method) → So (signatureFits t n m) → AllUnowned t m.args × AnswerUnowned t m.answer
+  pub signature-unowned : (m : Method) → So (signature_fits t n m) → AllUnowned t m.args × AnswerUnowned t m.answer
   signature-unowned m h = go (permit m.state) h
     where
       go : (b : Bool) → So
-          (elim b [ true ↦ leb (length m.args) maxArguments && (all (standsIn t n) m.args && unlessMissing m.answer (standsIn t n)) | false ↦ isNil m.args && is_none m.answer ])
+          (elim b [ true ↦ leb (length m.args) max_arguments && (all (stands_in t n) m.args && unless_missing m.answer (stands_in t n)) | false ↦ is_nil m.args && is_none m.answer ])
           → AllUnowned t m.args × AnswerUnowned t m.answer
       go true h =
-          let k = second (leb (length m.args) maxArguments) _ h in
-          (stands-unowned m.args (first (all (standsIn t n) m.args) _ k), answer-stands-unowned m.answer (second (all (standsIn t n) m.args) _ k))
-      go false h = rw (nil_is m.args (first (isNil m.args) _ h), none_is m.answer (second (isNil m.args) _ h)) (tt, tt)
+          let k = second (leb (length m.args) max_arguments) _ h in
+          (stands-unowned m.args (first (all (stands_in t n) m.args) _ k), answer-stands-unowned m.answer (second (all (stands_in t n) m.args) _ k))
+      go false h = rw (nil_is m.args (first (is_nil m.args) _ h), none_is m.answer (second (is_nil m.args) _ h)) (tt, tt)
 
 pub below_more : (n k : ℕ) → n ≤ k → (m : Method) → AllBelow n m.args × AnswerBelow n m.answer → AllBelow k m.args × AnswerBelow k m.answer
 below_more n k l m h = (args m.args h.0, ans m.answer h.1)
@@ -189,20 +189,20 @@ below_more n k l m h = (args m.args h.0, ans m.answer h.1)
 -- ---- one type that fits, by its parts
 pub record TypeFitting (t : Table) (i : ℕ) (x : Ty) : Type 0 where
   pub cat : x.cat ≤ length t.cats
-  pub own : So (x.own ⇒ isRef x.rep)
-  pub counts : length x.methods ≡ methodCount x.rep t.methods
-  pub signatures : So (all (signatureFits t (signatureBound t i)) x.methods)
-  pub key : So (keyFits t i x.key)
+  pub own : So (x.own ⇒ is_ref x.rep)
+  pub counts : length x.methods ≡ method_count x.rep t.methods
+  pub signatures : So (all (signature_fits t (signature_bound t i)) x.methods)
+  pub key : So (key_fits t i x.key)
 
-pub type-fitting : (t : Table) (i : ℕ) (x : Ty) → So (typeFits t i x) → TypeFitting t i x
+pub type-fitting : (t : Table) (i : ℕ) (x : Ty) → So (type_fits t i x) → TypeFitting t i x
 type-fitting t i x h =
-    let a = leb x.cat (length t.cats) in let b = x.own ⇒ isRef x.rep in let c = eqb (length x.methods) (methodCount x.rep t.methods) in
-    let d = all (signatureFits t (signatureBound t i)) x.methods in
+    let a = leb x.cat (length t.cats) in let b = x.own ⇒ is_ref x.rep in let c = eqb (length x.methods) (method_count x.rep t.methods) in
+    let d = all (signature_fits t (signature_bound t i)) x.methods in
     let h₁ = second a _ h in let h₂ = second b _ h₁ in let h₃ = second c _ h₂ in
     record { cat = leb-so (first a _ h); own = first b _ h₁; counts = eqb-so (first c _ h₂); signatures = first d _ h₃; key = second d _ h₃ }
 
 -- the bound on a type's signatures lies within the table
-bound-within : (t : Table) (i : ℕ) → t.sheet ≤ size t → signatureBound t i ≤ size t
+bound-within : (t : Table) (i : ℕ) → t.sheet ≤ size t → signature_bound t i ≤ size t
 bound-within t i l = go (ltb i t.sheet)
   where
     go : (b : Bool) → cond b t.sheet (size t) ≤ size t
@@ -211,34 +211,34 @@ bound-within t i l = go (ltb i t.sheet)
 
 -- ---- a table that fits, by its parts
 pub record TableFitting (t : Table) : Type 0 where
-  pub counts : So (countsFit t)
+  pub counts : So (counts_fit t)
   pub sheet : t.sheet ≤ size t
-  pub room : size t ≤ maxTypes
+  pub room : size t ≤ max_types
   pub cats : CategoryOrder t
   pub types : (i : ℕ) → i < size t → TypeFitting t i (type_at t i)
-  pub links : So (every linksFit 1 t.cats)
+  pub links : So (every links_fit 1 t.cats)
 
-descends-of : (cs : List (List ℕ)) → So (every linksFit 1 cs) → (k : ℕ) → AllBelow k (get_or ([] ∷ cs) k [])
+descends-of : (cs : List (List ℕ)) → So (every links_fit 1 cs) → (k : ℕ) → AllBelow k (get_or ([] ∷ cs) k [])
 descends-of cs h zero = tt
 descends-of cs h (suc k) = go (dec_lt k (length cs))
   where
     go : Dec (k < length cs) → AllBelow (suc k) (get_or cs k [])
-    go (yes l) = all-below (suc k) (get_or cs k []) (second (between 1 2 (length (get_or cs k []))) _ (subst (λ n. So (linksFit n (get_or cs k []))) (omega arith) (every-at linksFit [] 1 cs h k l)))
+    go (yes l) = all-below (suc k) (get_or cs k []) (second (between 1 2 (length (get_or cs k []))) _ (subst (λ n. So (links_fit n (get_or cs k []))) (omega arith) (every-at links_fit [] 1 cs h k l)))
     go (no l) = rw (get_or-eq_default cs [] {n = k} (omega arith)) tt
 
-pub table-fitting : (t : Table) → So (tableFits t) → TableFitting t
-unfolding tableFits
+pub table-fitting : (t : Table) → So (table_fits t) → TableFitting t
+unfolding table_fits
 table-fitting t h =
-    let c = first (countsFit t) _ h in let r = second (countsFit t) _ h in
+    let c = first (counts_fit t) _ h in let r = second (counts_fit t) _ h in
     let k = counted_of t c in
     record {
       counts = c;
       sheet = k.sheet;
       room = k.types;
-      links = first (every linksFit 1 t.cats) _ r;
-      cats = category-order t (descends-of t.cats (first (every linksFit 1 t.cats) _ r)) (omega (arith, k.cats));
+      links = first (every links_fit 1 t.cats) _ r;
+      cats = category-order t (descends-of t.cats (first (every links_fit 1 t.cats) _ r)) (omega (arith, k.cats));
       types = λ i l.
-          type-fitting t i (type_at t i) (subst (λ n. So (typeFits t n (type_at t i))) (omega arith) (every-at (typeFits t) noType 0 t.types (second (every linksFit 1 t.cats) _ r) i l));
+          type-fitting t i (type_at t i) (subst (λ n. So (type_fits t n (type_at t i))) (omega arith) (every-at (type_fits t) no_type 0 t.types (second (every links_fit 1 t.cats) _ r) i l));
     }
 
 module _ (t : Table) (f : TableFitting t) where
@@ -246,61 +246,61 @@ module _ (t : Table) (f : TableFitting t) where
   fitting-counts i l = (f.types i l).counts
 
   -- a fact of every method of every type, from that of each that fits
-  each-method : (P : Method → Type 0) → P noMethod → ((i : ℕ) (m : Method) → So (signatureFits t (signatureBound t i) m) → P m) → (a m : ℕ) → P (methodAt t a m)
+  each-method : (P : Method → Type 0) → P no_method → ((i : ℕ) (m : Method) → So (signature_fits t (signature_bound t i) m) → P m) → (a m : ℕ) → P (method_at t a m)
   each-method P z h a m = go (dec_lt a (size t)) (dec_lt m (length (type_at t a).methods))
     where
-      go : Dec (a < size t) → Dec (m < length (type_at t a).methods) → P (methodAt t a m)
-      go (yes l) (yes k) = h a (methodAt t a m) (all-at (signatureFits t (signatureBound t a)) noMethod (type_at t a).methods (f.types a l).signatures m k)
-      go (yes l) (no k) = rw (get_or-eq_default (type_at t a).methods noMethod {n = m} (omega arith)) z
+      go : Dec (a < size t) → Dec (m < length (type_at t a).methods) → P (method_at t a m)
+      go (yes l) (yes k) = h a (method_at t a m) (all-at (signature_fits t (signature_bound t a)) no_method (type_at t a).methods (f.types a l).signatures m k)
+      go (yes l) (no k) = rw (get_or-eq_default (type_at t a).methods no_method {n = m} (omega arith)) z
       go (no l) k = rw (out t a (omega arith)) z
 
   pub fitting-sigs : SignaturesIn t
   fitting-sigs = each-method (λ m. AllBelow (size t) m.args × AnswerBelow (size t) m.answer) (tt, tt)
-      (λ i m h. below_more (signatureBound t i) (size t) (bound-within t i f.sheet) m (signature-below t (signatureBound t i) m h))
+      (λ i m h. below_more (signature_bound t i) (size t) (bound-within t i f.sheet) m (signature-below t (signature_bound t i) m h))
 
   pub fitting-unowned : UnownedSignatures t
-  fitting-unowned = each-method (λ m. AllUnowned t m.args × AnswerUnowned t m.answer) (tt, tt) (λ i m h. signature-unowned t (signatureBound t i) m h)
+  fitting-unowned = each-method (λ m. AllUnowned t m.args × AnswerUnowned t m.answer) (tt, tt) (λ i m h. signature-unowned t (signature_bound t i) m h)
 
   -- a signature that fits is short
-  short-signature : (i : ℕ) (m : Method) → So (signatureFits t (signatureBound t i) m) → length m.args ≤ maxArguments
+  short-signature : (i : ℕ) (m : Method) → So (signature_fits t (signature_bound t i) m) → length m.args ≤ max_arguments
   short-signature i m h = go (permit m.state) h
     where
       go : (b : Bool)
           → So
           (elim b [
-            | true ↦ leb (length m.args) maxArguments && (all (standsIn t (signatureBound t i)) m.args && unlessMissing m.answer (standsIn t (signatureBound t i)))
-            | false ↦ isNil
+            | true ↦ leb (length m.args) max_arguments && (all (stands_in t (signature_bound t i)) m.args && unless_missing m.answer (stands_in t (signature_bound t i)))
+            | false ↦ is_nil
                 m.args && is_none m.answer
           ])
-          → length m.args ≤ maxArguments
-      go true h = leb-so (first (leb (length m.args) maxArguments) _ h)
-      go false h = rw (nil_is m.args (first (isNil m.args) _ h)) (omega arith)
+          → length m.args ≤ max_arguments
+      go true h = leb-so (first (leb (length m.args) max_arguments) _ h)
+      go false h = rw (nil_is m.args (first (is_nil m.args) _ h)) (omega arith)
 
   pub fitting-short : ShortSignatures t
-  fitting-short = each-method (λ m. length m.args ≤ maxArguments) (omega arith) short-signature
+  fitting-short = each-method (λ m. length m.args ≤ max_arguments) (omega arith) short-signature
 
-  pub fitting-catIn : CategoriesIn t
-  fitting-catIn i = go (dec_lt i (size t))
+  pub fitting-cat_in : CategoriesIn t
+  fitting-cat_in i = go (dec_lt i (size t))
     where
       go : Dec (i < size t) → (type_at t i).cat ≤ length t.cats
       go (yes l) = (f.types i l).cat
       go (no l) = rw (out t i (omega arith)) (omega arith)
 
-  key_below : (i : ℕ) (o : Option Key) → So (keyFits t i o) → KeyBelow (size t) o
+  key_below : (i : ℕ) (o : Option Key) → So (key_fits t i o) → KeyBelow (size t) o
   key_below i none h = tt
   key_below i (some k) h = let r = second (leb t.sheet i) _ h in (ltb-so (first (ltb k.left (size t)) _ r), ltb-so (second (ltb k.left (size t)) _ r))
 
   -- the signatures of sheet types hold sheet types
-  bound-sheet : (a : ℕ) → a < t.sheet → signatureBound t a ≡ t.sheet
+  bound-sheet : (a : ℕ) → a < t.sheet → signature_bound t a ≡ t.sheet
   bound-sheet a l = ap (λ b. cond b t.sheet (size t)) (so-ltb l)
 
-  fitting-sheetSigs : (a m : ℕ) → a < t.sheet → AllBelow t.sheet (methodAt t a m).args × AnswerBelow t.sheet (methodAt t a m).answer
-  fitting-sheetSigs a m l = go (dec_lt m (length (type_at t a).methods))
+  fitting-sheet_sigs : (a m : ℕ) → a < t.sheet → AllBelow t.sheet (method_at t a m).args × AnswerBelow t.sheet (method_at t a m).answer
+  fitting-sheet_sigs a m l = go (dec_lt m (length (type_at t a).methods))
     where
-      go : Dec (m < length (type_at t a).methods) → AllBelow t.sheet (methodAt t a m).args × AnswerBelow t.sheet (methodAt t a m).answer
-      go (yes k) = let s : a < size t = omega (arith, f.sheet) in subst (λ n. AllBelow n (methodAt t a m).args × AnswerBelow n (methodAt t a m).answer) (bound-sheet a l)
-          (signature-below t (signatureBound t a) (methodAt t a m) (all-at (signatureFits t (signatureBound t a)) noMethod (type_at t a).methods (f.types a s).signatures m k))
-      go (no k) = rw (get_or-eq_default (type_at t a).methods noMethod {n = m} (omega arith)) (tt, tt)
+      go : Dec (m < length (type_at t a).methods) → AllBelow t.sheet (method_at t a m).args × AnswerBelow t.sheet (method_at t a m).answer
+      go (yes k) = let s : a < size t = omega (arith, f.sheet) in subst (λ n. AllBelow n (method_at t a m).args × AnswerBelow n (method_at t a m).answer) (bound-sheet a l)
+          (signature-below t (signature_bound t a) (method_at t a m) (all-at (signature_fits t (signature_bound t a)) no_method (type_at t a).methods (f.types a s).signatures m k))
+      go (no k) = rw (get_or-eq_default (type_at t a).methods no_method {n = m} (omega arith)) (tt, tt)
 
   -- a table that fits keeps what a derivation keeps
   pub fitting-sound : Sound t
@@ -309,7 +309,7 @@ module _ (t : Table) (f : TableFitting t) where
     sigs = fitting-sigs;
     methods = fitting-counts;
     short = fitting-short;
-    catIn = fitting-catIn;
-    keyIn = λ i l. key_below i (type_at t i).key (f.types i l).key;
-    sheetSigs = fitting-sheetSigs;
+    cat_in = fitting-cat_in;
+    key_in = λ i l. key_below i (type_at t i).key (f.types i l).key;
+    sheet_sigs = fitting-sheet_sigs;
   }

@@ -10,13 +10,13 @@ use native.Mathlib.Decide.{dec_lt}
 use lib.Dec.{leb}
 use lib.ListN.{length, get_or-eq_default}
 use Rattle.spec_model.specs.Basics.{AllBelow}
-use Rattle.spec_model.specs.Table.{maxArguments, maxSubjects, maxMethods, maxCategories, maxSheetTypes, between, countsFit, maxTypes, Rep, ref, w32, w64, sub, sup, closed, permit, methodCount}
-use Rattle.spec_model.specs.Table.{Method, Key, Kind, Table, noType, size, type_at, methodAt, isRef}
+use Rattle.spec_model.specs.Table.{max_arguments, max_subjects, max_methods, max_categories, max_sheet_types, between, counts_fit, max_types, Rep, ref, w32, w64, sub, sup, closed, permit, method_count}
+use Rattle.spec_model.specs.Table.{Method, Key, Kind, Table, no_type, size, type_at, method_at, is_ref}
 use Rattle.spec_model.specs.Relations.{free, related}
-use Rattle.spec_model.specs.Restriction.{mainSide, derive, argKind, answerKind}
+use Rattle.spec_model.specs.Restriction.{main_side, derive, arg_kind, answer_kind}
 use Rattle.spec_model.proofs.Tests.{leb-so, so-leb}
 use Rattle.spec_model.proofs.Rules.{never, both, first, second}
-use Rattle.spec_model.proofs.Derived.{Known, itself, ofNumber, made, ArgsFrom, AnswerFrom, DerivedMethod, past, here, AnswerBelow, SignaturesIn, CategoryOrder, Complete}
+use Rattle.spec_model.proofs.Derived.{Known, itself, of_number, made, ArgsFrom, AnswerFrom, DerivedMethod, past, here, AnswerBelow, SignaturesIn, CategoryOrder, Complete}
 use Rattle.spec_model.proofs.Growth.{Grown, grown-refl, cats-grow, method-same}
 use Rattle.law_model.proofs.Unowned.{AllUnowned, AnswerUnowned, UnownedSignatures}
 use Rattle.law_model.proofs.Deriving.{derive-roomy, IfSome}
@@ -24,9 +24,9 @@ use Rattle.law_model.proofs.Completes.{Inv, Got, signature-below-more, grown-key
 
 -- Every type has as many methods as T10 and T11 say: a ref type one for each method, a number type none.
 abbrev pub MethodCounts : Table → Type 0
-MethodCounts t = (i : ℕ) → i < size t → length (type_at t i).methods ≡ methodCount (type_at t i).rep t.methods
+MethodCounts t = (i : ℕ) → i < size t → length (type_at t i).methods ≡ method_count (type_at t i).rep t.methods
 
-count-sort : (a b : Rep) (n : ℕ) → isRef a ≡ isRef b → methodCount a n ≡ methodCount b n
+count-sort : (a b : Rep) (n : ℕ) → is_ref a ≡ is_ref b → method_count a n ≡ method_count b n
 count-sort ref ref n e = refl
 count-sort ref w32 n e = never (sym e)
 count-sort ref w64 n e = never (sym e)
@@ -42,7 +42,7 @@ even-methods t c i j a b e = c i a ∙ count-sort (type_at t i).rep (type_at t j
 
 -- no signature has more arguments than T13 allows
 abbrev pub ShortSignatures : Table → Type 0
-ShortSignatures t = (a m : ℕ) → length (methodAt t a m).args ≤ maxArguments
+ShortSignatures t = (a m : ℕ) → length (method_at t a m).args ≤ max_arguments
 
 -- no type has a category above the last
 abbrev pub CategoriesIn : Table → Type 0
@@ -55,13 +55,13 @@ KeyBelow n (some k) = (k.left < n) × (k.right < n)
 
 -- What a table keeps to whatever its derived types hold: counts within limits, and every number below its count
 pub record Sound (t : Table) : Type 0 where
-  pub counts : So (countsFit t)
+  pub counts : So (counts_fit t)
   pub sigs : SignaturesIn t
   pub methods : MethodCounts t
   pub short : ShortSignatures t
-  pub catIn : CategoriesIn t
-  pub keyIn : (i : ℕ) → i < size t → KeyBelow (size t) (type_at t i).key
-  pub sheetSigs : (a m : ℕ) → a < t.sheet → AllBelow t.sheet (methodAt t a m).args × AnswerBelow t.sheet (methodAt t a m).answer
+  pub cat_in : CategoriesIn t
+  pub key_in : (i : ℕ) → i < size t → KeyBelow (size t) (type_at t i).key
+  pub sheet_sigs : (a m : ℕ) → a < t.sheet → AllBelow t.sheet (method_at t a m).args × AnswerBelow t.sheet (method_at t a m).answer
 
 -- every type after the sheet's has a key
 abbrev pub Keyed : Table → Type 0
@@ -75,19 +75,19 @@ pub record Good (t : Table) : Type 0 where
   pub complete : Complete t
   pub unowned : UnownedSignatures t
   pub short : ShortSignatures t
-  pub catIn : CategoriesIn t
+  pub cat_in : CategoriesIn t
   pub keyed : Keyed t
-  pub room : size t ≤ maxTypes
+  pub room : size t ≤ max_types
 
-pub out : (t : Table) (i : ℕ) → size t ≤ i → type_at t i ≡ noType
-out t i l = get_or-eq_default t.types noType l
+pub out : (t : Table) (i : ℕ) → size t ≤ i → type_at t i ≡ no_type
+out t i l = get_or-eq_default t.types no_type l
 
 -- what a derivation gives has no own flag if the two sides have none
-known-unowned : (t : Table) → Complete t → (d : Kind) (l r i : ℕ) → Known t d l r i → (type_at t l).own_val ≡ false → (type_at t r).own_val ≡ false → (type_at t i).own_val ≡ false
+known-unowned : (t : Table) → Complete t → (d : Kind) (l r i : ℕ) → Known t d l r i → (type_at t l).own ≡ false → (type_at t r).own ≡ false → (type_at t i).own ≡ false
 known-unowned t c d l r i (itself o e f) p q = rw f p
-known-unowned t c sub l r i (ofNumber u o e f) p q = rw f p
-known-unowned t c sup l r i (ofNumber u o e f) p q = rw f q
-known-unowned t c closed l r i (ofNumber u o e f) p q = rw f p
+known-unowned t c sub l r i (of_number u o e f) p q = rw f p
+known-unowned t c sup l r i (of_number u o e f) p q = rw f q
+known-unowned t c closed l r i (of_number u o e f) p q = rw f p
 known-unowned t c d l r i (made u e) p q = (c i _ e).own
 
 args-unowned : (t : Table) → Complete t → (d : Kind) (xs ys zs : List ℕ) → ArgsFrom (Known t d) xs ys zs → AllUnowned t xs → AllUnowned t ys → AllUnowned t zs
@@ -116,23 +116,23 @@ method-unowned t c d x y z (here e s n) p q = go (permit z.state) refl
     go : (b : Bool) → permit z.state ≡ b → Unowned t z
     go true h =
         let k = s h in
-        (args-unowned t c (argKind d) x.args y.args z.args k.args p.0 q.0, answer-unowned t c (answerKind d) x.answer y.answer z.answer k.answer p.1 q.1)
+        (args-unowned t c (arg_kind d) x.args y.args z.args k.args p.0 q.0, answer-unowned t c (answer_kind d) x.answer y.answer z.answer k.answer p.1 q.1)
     go false h = let k = n h in rw (k.0, k.1) (tt, tt)
 
 -- what counts within their limits say
 pub record Counted (t : Table) : Type 0 where
-  pub subjects : t.subjects ≤ maxSubjects
-  pub methods : t.methods ≤ maxMethods
-  pub cats : length t.cats ≤ maxCategories
+  pub subjects : t.subjects ≤ max_subjects
+  pub methods : t.methods ≤ max_methods
+  pub cats : length t.cats ≤ max_categories
   pub sheet : t.sheet ≤ size t
-  pub types : size t ≤ maxTypes
+  pub types : size t ≤ max_types
 
-pub counted_of : (t : Table) → So (countsFit t) → Counted t
+pub counted_of : (t : Table) → So (counts_fit t) → Counted t
 counted_of t c =
-    let a₁ = between 1 maxSubjects t.subjects in
-    let a₂ = between 1 maxMethods t.methods in
-    let a₃ = leb (length t.cats) maxCategories in
-    let a₄ = between 1 maxSheetTypes t.sheet in
+    let a₁ = between 1 max_subjects t.subjects in
+    let a₂ = between 1 max_methods t.methods in
+    let a₃ = leb (length t.cats) max_categories in
+    let a₄ = between 1 max_sheet_types t.sheet in
     let a₅ = leb t.sheet (size t) in let c₂ = second a₁ _ c in let c₃ = second a₂ _ c₂ in let c₅ = second a₄ _ (second a₃ _ c₃) in
     record {
       subjects = leb-so (second (leb 1 t.subjects) _ (first a₁ _ c));
@@ -143,28 +143,28 @@ counted_of t c =
     }
 
 -- the sheet's types are types of the table
-pub sheet-within : (t : Table) → So (countsFit t) → t.sheet ≤ size t
+pub sheet-within : (t : Table) → So (counts_fit t) → t.sheet ≤ size t
 sheet-within t c = (counted_of t c).sheet
 
 -- limits and the signatures of sheet types stay as the table grows
-pub grown-counts : (t u : Table) → Grown t u → So (countsFit t) → size u ≤ maxTypes → So (countsFit u)
+pub grown-counts : (t u : Table) → Grown t u → So (counts_fit t) → size u ≤ max_types → So (counts_fit u)
 grown-counts t u x c r =
-    let a₁ = between 1 maxSubjects t.subjects in
-    let a₂ = between 1 maxMethods t.methods in
-    let a₃ = leb (length t.cats) maxCategories in
-    let a₄ = between 1 maxSheetTypes t.sheet in
+    let a₁ = between 1 max_subjects t.subjects in
+    let a₂ = between 1 max_methods t.methods in
+    let a₃ = leb (length t.cats) max_categories in
+    let a₄ = between 1 max_sheet_types t.sheet in
     let c₂ = second a₁ _ c in let c₃ = second a₂ _ c₂ in let c₄ = second a₃ _ c₃ in
     let l : u.sheet ≤ size u = subst (λ n. n ≤ size u) (sym x.sheet) (let p = sheet-within t c in omega (arith, x.more)) in
-    let b₁ : So (between 1 maxSubjects u.subjects) = rw x.subjects (first a₁ _ c) in
-    let b₂ : So (between 1 maxMethods u.methods) = rw x.methods (first a₂ _ c₂) in
-    let b₃ : So (leb (length u.cats) maxCategories) = rw x.cats (first a₃ _ c₃) in
-    let b₄ : So (between 1 maxSheetTypes u.sheet) = rw x.sheet (first a₄ _ c₄) in
+    let b₁ : So (between 1 max_subjects u.subjects) = rw x.subjects (first a₁ _ c) in
+    let b₂ : So (between 1 max_methods u.methods) = rw x.methods (first a₂ _ c₂) in
+    let b₃ : So (leb (length u.cats) max_categories) = rw x.cats (first a₃ _ c₃) in
+    let b₄ : So (between 1 max_sheet_types u.sheet) = rw x.sheet (first a₄ _ c₄) in
     both b₁ (both b₂ (both b₃ (both b₄ (both (so-leb l) (so-leb r)))))
 
-pub grown-sheetSigs : (t u : Table) → Grown t u → t.sheet ≤ size t
-    → ((a m : ℕ) → a < t.sheet → AllBelow t.sheet (methodAt t a m).args × AnswerBelow t.sheet (methodAt t a m).answer)
-    → (a m : ℕ) → a < u.sheet → AllBelow u.sheet (methodAt u a m).args × AnswerBelow u.sheet (methodAt u a m).answer
-grown-sheetSigs t u x l g a m b = let p : a < t.sheet = subst (λ n. a < n) x.sheet b in
+pub grown-sheet_sigs : (t u : Table) → Grown t u → t.sheet ≤ size t
+    → ((a m : ℕ) → a < t.sheet → AllBelow t.sheet (method_at t a m).args × AnswerBelow t.sheet (method_at t a m).answer)
+    → (a m : ℕ) → a < u.sheet → AllBelow u.sheet (method_at u a m).args × AnswerBelow u.sheet (method_at u a m).answer
+grown-sheet_sigs t u x l g a m b = let p : a < t.sheet = subst (λ n. a < n) x.sheet b in
     rw (x.sheet, method-same t u x a m (omega arith)) (g a m p)
 
 args-short : (P : ℕ → ℕ → ℕ → Type 0) (n : ℕ) (xs ys zs : List ℕ) → ArgsFrom P xs ys zs → length xs ≤ n → length zs ≤ n
@@ -176,12 +176,12 @@ args-short P n (x ∷ xs) (y ∷ ys) [] h l = omega arith
 args-short P zero (x ∷ xs) (y ∷ ys) (z ∷ zs) h l = absurd (omega arith)
 args-short P (suc n) (x ∷ xs) (y ∷ ys) (z ∷ zs) h l = let k = args-short P n xs ys zs h.1 (omega arith) in omega arith
 
-method-short : (t : Table) (d : Kind) (x y z : Method) → DerivedMethod t d x y z → length x.args ≤ maxArguments → length z.args ≤ maxArguments
+method-short : (t : Table) (d : Kind) (x y z : Method) → DerivedMethod t d x y z → length x.args ≤ max_arguments → length z.args ≤ max_arguments
 method-short t d x y z (past e f g) l = rw g (omega arith)
 method-short t d x y z (here e s n) l = go (permit z.state) refl
   where
-    go : (b : Bool) → permit z.state ≡ b → length z.args ≤ maxArguments
-    go true h = args-short (Known t (argKind d)) maxArguments x.args y.args z.args (s h).args l
+    go : (b : Bool) → permit z.state ≡ b → length z.args ≤ max_arguments
+    go true h = args-short (Known t (arg_kind d)) max_arguments x.args y.args z.args (s h).args l
     go false h = rw (n h).0 (omega arith)
 
 -- A table u that a derivation from t has left with no type under work
@@ -203,11 +203,11 @@ module _ (t u : Table) (v : Inv t u (λ j. ⊥)) where
       go (no l) (no k) = c (omega arith)
 
   pub new-sigs : SignaturesIn t → SignaturesIn u
-  new-sigs g i m = three i (λ l. rw (method-same t u v.ext i m l) (signature-below-more v.ext.more (methodAt t i m) (g i m)))
+  new-sigs g i m = three i (λ l. rw (method-same t u v.ext i m l) (signature-below-more v.ext.more (method_at t i m) (g i m)))
       (λ f. (f.key f.keyed.0 f.keyed.1).inside m) (λ l. rw (out u i l) (tt, tt))
 
-  main-same : (d : Kind) (l r : ℕ) → l < size t → r < size t → type_at u (mainSide d l r) ≡ type_at t (mainSide d l r)
-  main-same d l r a b = v.ext.same (mainSide d l r) (main-in t l r a b d)
+  main-same : (d : Kind) (l r : ℕ) → l < size t → r < size t → type_at u (main_side d l r) ≡ type_at t (main_side d l r)
+  main-same d l r a b = v.ext.same (main_side d l r) (main-in t l r a b d)
 
   new-complete : Complete t → Complete u
   new-complete g i k e = three i
@@ -217,7 +217,7 @@ module _ (t u : Table) (v : Inv t u (λ j. ⊥)) where
         high = omega (arith, c.high, v.ext.more);
         rep = ap (λ y. y.rep) (v.ext.same i l) ∙ c.rep ∙ sym (ap (λ y. y.rep) w);
         cat = ap (λ y. y.cat) (v.ext.same i l) ∙ c.cat ∙ sym (ap (λ y. y.cat) w);
-        own_val = ap (λ y. y.own) (v.ext.same i l) ∙ c.own;
+        own = ap (λ y. y.own) (v.ext.same i l) ∙ c.own;
         at = λ m. rw (method-same t u v.ext i m l, method-same t u v.ext k.left m c.low, method-same t u v.ext k.right m c.high)
             (method-keys (grown-keys v.ext) k.kind _ _ _ (c.at m));
       })
@@ -227,7 +227,7 @@ module _ (t u : Table) (v : Inv t u (λ j. ⊥)) where
         high = omega (arith, c.high, v.ext.more);
         rep = c.rep ∙ sym (ap (λ y. y.rep) w);
         cat = c.cat ∙ sym (ap (λ y. y.cat) w);
-        own_val = c.own;
+        own = c.own;
         at = λ m. rw (method-same t u v.ext k.left m c.low, method-same t u v.ext k.right m c.high) (c.at m);
       })
       (λ l. absurd (none-ne-some k (sym (ap (λ y. y.key) (out u i l)) ∙ e)))
@@ -242,11 +242,11 @@ module _ (t u : Table) (v : Inv t u (λ j. ⊥)) where
   shade : (i : ℕ) → i < size u → Shade i
   shade i l = three i (λ a. record { at = i; old = a; rep = ap (λ y. y.rep) (v.ext.same i a); long = ap (λ y. length y.methods) (v.ext.same i a) })
       (λ f. let k = f.keyed.0 in let c = f.key k f.keyed.1 in
-      record { at = mainSide k.kind k.left k.right; old = main-in t k.left k.right c.low c.high k.kind; rep = c.rep; long = c.long })
+      record { at = main_side k.kind k.left k.right; old = main-in t k.left k.right c.low c.high k.kind; rep = c.rep; long = c.long })
       (λ a. absurd (omega arith))
 
   pub new-counts : MethodCounts t → MethodCounts u
-  new-counts g i l = let x = shade i l in x.long ∙ g x.at x.old ∙ ap (λ r. methodCount r t.methods) (sym x.rep) ∙ ap (λ n. methodCount (type_at u i).rep n) (sym v.ext.methods)
+  new-counts g i l = let x = shade i l in x.long ∙ g x.at x.old ∙ ap (λ r. method_count r t.methods) (sym x.rep) ∙ ap (λ n. method_count (type_at u i).rep n) (sym v.ext.methods)
 
   all-unowned-grow : (xs : List ℕ) → AllBelow (size t) xs → AllUnowned t xs → AllUnowned u xs
   all-unowned-grow [] l h = tt
@@ -256,8 +256,8 @@ module _ (t u : Table) (v : Inv t u (λ j. ⊥)) where
   answer-unowned-grow none l h = tt
   answer-unowned-grow (some x) l h = ap (λ y. y.own) (v.ext.same x l) ∙ h
 
-  unowned-grow : SignaturesIn t → UnownedSignatures t → (i m : ℕ) → Unowned u (methodAt t i m)
-  unowned-grow g p i m = (all-unowned-grow (methodAt t i m).args (g i m).0 (p i m).0, answer-unowned-grow (methodAt t i m).answer (g i m).1 (p i m).1)
+  unowned-grow : SignaturesIn t → UnownedSignatures t → (i m : ℕ) → Unowned u (method_at t i m)
+  unowned-grow g p i m = (all-unowned-grow (method_at t i m).args (g i m).0 (p i m).0, answer-unowned-grow (method_at t i m).answer (g i m).1 (p i m).1)
 
   new-unowned : SignaturesIn t → Complete t → UnownedSignatures t → UnownedSignatures u
   new-unowned g c p i m = three i (λ l. rw (method-same t u v.ext i m l) (unowned-grow g p i m))
@@ -277,32 +277,32 @@ module _ (t u : Table) (v : Inv t u (λ j. ⊥)) where
       (λ f. let k = f.keyed.0 in let r = f.key k f.keyed.1 in method-short u k.kind _ _ _ (r.at m) (g k.left m))
       (λ l. rw (out u i l) (omega arith))
 
-  pub new-catIn : CategoriesIn t → CategoriesIn u
-  new-catIn g i = rw v.ext.cats (three i (λ l. rw (v.ext.same i l) (g i))
-      (λ f. let k = f.keyed.0 in let r = f.key k f.keyed.1 in rw r.cat (g (mainSide k.kind k.left k.right)))
+  pub new-cat_in : CategoriesIn t → CategoriesIn u
+  new-cat_in g i = rw v.ext.cats (three i (λ l. rw (v.ext.same i l) (g i))
+      (λ f. let k = f.keyed.0 in let r = f.key k f.keyed.1 in rw r.cat (g (main_side k.kind k.left k.right)))
       (λ l. rw (out u i l) (omega arith)))
 
   key_more : (o : Option Key) → KeyBelow (size t) o → KeyBelow (size u) o
   key_more none h = tt
   key_more (some k) h = (omega (arith, h.0, v.ext.more), omega (arith, h.1, v.ext.more))
 
-  new-keyIn : ((i : ℕ) → i < size t → KeyBelow (size t) (type_at t i).key) → (i : ℕ) → i < size u → KeyBelow (size u) (type_at u i).key
-  new-keyIn g i a = three i (λ l. rw (v.ext.same i l) (key_more (type_at t i).key (g i l)))
+  new-key_in : ((i : ℕ) → i < size t → KeyBelow (size t) (type_at t i).key) → (i : ℕ) → i < size u → KeyBelow (size u) (type_at u i).key
+  new-key_in g i a = three i (λ l. rw (v.ext.same i l) (key_more (type_at t i).key (g i l)))
       (λ f. let k = f.keyed.0 in let r = f.key k f.keyed.1 in rw f.keyed.1 (omega (arith, r.low, v.ext.more), omega (arith, r.high, v.ext.more)))
       (λ l. absurd (omega arith))
 
-  pub new-sound : Sound t → size u ≤ maxTypes → Sound u
+  pub new-sound : Sound t → size u ≤ max_types → Sound u
   new-sound g r = record {
     counts = grown-counts t u v.ext g.counts r;
     sigs = new-sigs g.sigs;
     methods = new-counts g.methods;
     short = new-short g.short;
-    catIn = new-catIn g.catIn;
-    keyIn = new-keyIn g.keyIn;
-    sheetSigs = grown-sheetSigs t u v.ext (sheet-within t g.counts) g.sheetSigs;
+    cat_in = new-cat_in g.cat_in;
+    key_in = new-key_in g.key_in;
+    sheet_sigs = grown-sheet_sigs t u v.ext (sheet-within t g.counts) g.sheet_sigs;
   }
 
-  new-good : Good t → size u ≤ maxTypes → Good u
+  new-good : Good t → size u ≤ max_types → Good u
   new-good g r = record {
     cats = cats-grow t u v.ext g.cats;
     sigs = new-sigs g.sigs;
@@ -310,7 +310,7 @@ module _ (t u : Table) (v : Inv t u (λ j. ⊥)) where
     complete = new-complete g.complete;
     unowned = new-unowned g.sigs g.complete g.unowned;
     short = new-short g.short;
-    catIn = new-catIn g.catIn;
+    cat_in = new-cat_in g.cat_in;
     keyed = new-keyed g.keyed;
     room = r;
   }
@@ -327,11 +327,11 @@ pub derive-inv : (t : Table) → MethodCounts t → (f : ℕ) (d : Kind) (l r : 
 derive-inv t g f d l r h = derive-ok t (even-methods t g) f t (λ j. ⊥) (record { ext = grown-refl t; fresh = λ j a b. absurd (omega arith) }) d l r h
 
 -- from a table handed in, whatever its derived types hold
-pub derive-sound : (t : Table) → Sound t → (f : ℕ) (d : Kind) (l r : ℕ) → So (related free t l r) → size t ≤ maxTypes
+pub derive-sound : (t : Table) → Sound t → (f : ℕ) (d : Kind) (l r : ℕ) → So (related free t l r) → size t ≤ max_types
     → IfSome (derive f t d l r) (λ x. Sound x.0 × Grown t x.0 × (x.1 < size x.0))
 derive-sound t g f d l r h m = go (derive f t d l r) (derive-inv t g.methods f d l r h) (derive-roomy f t d l r)
   where
-    go : (o : Option (Table × ℕ)) → IfSome o (Got t t (λ j. ⊥) d l r) → IfSome o (λ x. size t ≤ maxTypes → size x.0 ≤ maxTypes)
+    go : (o : Option (Table × ℕ)) → IfSome o (Got t t (λ j. ⊥) d l r) → IfSome o (λ x. size t ≤ max_types → size x.0 ≤ max_types)
         → IfSome o (λ x. Sound x.0 × Grown t x.0 × (x.1 < size x.0))
     go none w q = tt
     go (some x) w q = (new-sound t x.0 w.inv g (q m), w.grow, w.inside)
@@ -339,6 +339,6 @@ derive-sound t g f d l r h m = go (derive f t d l r) (derive-inv t g.methods f d
 pub derive-good : (t : Table) → Good t → (f : ℕ) (d : Kind) (l r : ℕ) → So (related free t l r) → IfSome (derive f t d l r) (Derived t d l r)
 derive-good t g f d l r h = go (derive f t d l r) (derive-inv t g.counts f d l r h) (derive-roomy f t d l r)
   where
-    go : (o : Option (Table × ℕ)) → IfSome o (Got t t (λ j. ⊥) d l r) → IfSome o (λ x. size t ≤ maxTypes → size x.0 ≤ maxTypes) → IfSome o (Derived t d l r)
+    go : (o : Option (Table × ℕ)) → IfSome o (Got t t (λ j. ⊥) d l r) → IfSome o (λ x. size t ≤ max_types → size x.0 ≤ max_types) → IfSome o (Derived t d l r)
     go none w q = tt
     go (some x) w q = record { good = new-good t x.0 w.inv g (q g.room); grow = w.grow; is = w.is; inside = w.inside }

@@ -7,17 +7,17 @@ use mathlib.Core.Option.{Option, none, some}
 use Prim.Native.Nat.{ℕ, ◌<◌}
 use native.Mathlib.Omega.{arith}
 use Rattle.spec_model.specs.Basics.{◌⇒◌, Res, refuse, ok, try, need}
-use Rattle.spec_model.specs.Table.{Kind, sub, closed, Method, Table, size, type_at, methodAt, permit, isAvail, maxTypes}
+use Rattle.spec_model.specs.Table.{Kind, sub, closed, Method, Table, size, type_at, method_at, permit, is_avail, max_types}
 use Rattle.spec_model.specs.Relations.{subtype, conforms, strict, loose, free, related}
 use Rattle.spec_model.specs.Restriction.{restricted, derive, derived}
 use Rattle.spec_model.specs.Chains.{Permits}
 use Rattle.spec_model.proofs.Rules.{never}
 use Rattle.spec_model.proofs.States.{each₂}
-use Rattle.spec_model.proofs.Derived.{Known, itself, ofNumber, made, DerivedMethod, Complete, past, here}
+use Rattle.spec_model.proofs.Derived.{Known, itself, of_number, made, DerivedMethod, Complete, past, here}
 use Rattle.spec_model.proofs.Order.{subtype→conforms, strict→loose, loose→free, conforms-trans, sub-le, closed-le}
 use Rattle.spec_model.proofs.ChainLaws.{meet, meet-closed, permits-between}
 use Rattle.spec_model.proofs.Growth.{Grown, grown-refl, grown-trans, method-same, related-grow}
-use Rattle.spec_model.specs.Refusals.{unrelated, notOwner, notStrict, typesFull}
+use Rattle.spec_model.specs.Refusals.{unrelated, not_owner, not_strict, types_full}
 use Rattle.law_model.proofs.Deriving.{IfSome}
 use Rattle.law_model.proofs.Completes.{grown-keys, known-keys}
 use Rattle.law_model.proofs.Good.{Good, Derived, derive-good}
@@ -47,7 +47,7 @@ unfoldable pub finish : Table → ℕ → ℕ → Res (Table × Option ℕ)
 unfolding related derived
 finish t r v = elim (related conforms t r v) [
   | true ↦ ok (t, none)
-  | false ↦ need (related strict t r v) notStrict λ _. try (derived t closed r v) λ p. ok (p.0, some p.1)
+  | false ↦ need (related strict t r v) not_strict λ _. try (derived t closed r v) λ p. ok (p.0, some p.1)
 ]
 
 -- The whole: s and to are the types crossed, v the place's type, c the base's class, which the receiver owns or not
@@ -58,8 +58,8 @@ pub record Crossed : Type 0 where
 
 unfoldable pub typed : Table → ℕ → ℕ → ℕ → ℕ → Bool → Res Crossed
 unfolding related derived finish
-typed t s to v c owns = elim (type_at t to).own_val [
-  | true ↦ need (related free t to s) unrelated λ _. need owns notOwner λ _. try (finish t to c) λ p. ok (record { table = p.0; unwraps = true; adapter = p.1 })
+typed t s to v c owns = elim (type_at t to).own [
+  | true ↦ need (related free t to s) unrelated λ _. need owns not_owner λ _. try (finish t to c) λ p. ok (record { table = p.0; unwraps = true; adapter = p.1 })
   | false ↦ need (related loose t to s) unrelated λ _. elim (related subtype t to s) [
     | true ↦ ok (record { table = t; unwraps = false; adapter = none })
     | false ↦ try (derived t sub to s) λ p. try (finish p.0 p.1 v) λ q. ok (record { table = q.0; unwraps = false; adapter = q.1 })
@@ -68,25 +68,25 @@ typed t s to v c owns = elim (type_at t to).own_val [
 
 -- no method of the type is optional on the outside
 abbrev pub Settled : Table → ℕ → Type 0
-Settled t v = (m : ℕ) → So (permit (methodAt t v m).state ⇒ isAvail (methodAt t v m).state)
+Settled t v = (m : ℕ) → So (permit (method_at t v m).state ⇒ is_avail (method_at t v m).state)
 
 pub settled-grow : (t u : Table) → Grown t u → (v : ℕ) → v < size t → Settled t v → Settled u v
 settled-grow t u x v l h m = rw (method-same t u x v m l) (h m)
 
 closed-settled : (t : Table) → Complete t → (l r i : ℕ) → Known t closed l r i → Settled t i
 closed-settled t c l r i (itself o e f) m = never o
-closed-settled t c l r i (ofNumber u o e f) m = never o
-closed-settled t c l r i (made u e) m = go (methodAt t l m) (methodAt t r m) (methodAt t i m) ((c i _ e).at m)
+closed-settled t c l r i (of_number u o e f) m = never o
+closed-settled t c l r i (made u e) m = go (method_at t l m) (method_at t r m) (method_at t i m) ((c i _ e).at m)
   where
-    go : (x y z : Method) → DerivedMethod t closed x y z → So (permit z.state ⇒ isAvail z.state)
+    go : (x y z : Method) → DerivedMethod t closed x y z → So (permit z.state ⇒ is_avail z.state)
     go x y z (past p q r) = rw r
-    go x y z (here p q z') = rw p (each₂ (λ a b. permit (restricted closed a b) ⇒ isAvail (restricted closed a b)) refl x.state y.state)
+    go x y z (here p q z') = rw p (each₂ (λ a b. permit (restricted closed a b) ⇒ is_avail (restricted closed a b)) refl x.state y.state)
 
 derived-ok : (t : Table) → Good t → (d : Kind) (l r : ℕ) → So (related free t l r) → IfOk (derived t d l r) (Derived t d l r)
 unfolding derived
-derived-ok t g d l r h = go (derive maxTypes t d l r) (derive-good t g maxTypes d l r h)
+derived-ok t g d l r h = go (derive max_types t d l r) (derive-good t g max_types d l r h)
   where
-    go : (o : Option (Table × ℕ)) → IfSome o (Derived t d l r) → IfOk (elim o [ none ↦ refuse typesFull | some p ↦ ok p ]) (Derived t d l r)
+    go : (o : Option (Table × ℕ)) → IfSome o (Derived t d l r) → IfOk (elim o [ none ↦ refuse types_full | some p ↦ ok p ]) (Derived t d l r)
     go none k = tt
     go (some p) k = k
 
@@ -108,10 +108,10 @@ finish-ok t g r v l s = go (related conforms t r v) refl
   where
     go : (b : Bool) → related conforms t r v ≡ b → IfOk (elim b [
       | true ↦ ok (t, none)
-      | false ↦ need (related strict t r v) notStrict λ _. try (derived t closed r v) λ p. ok (p.0, some p.1)
+      | false ↦ need (related strict t r v) not_strict λ _. try (derived t closed r v) λ p. ok (p.0, some p.1)
     ]) (Finished t r v)
     go true e = record { good = g; grow = grown-refl t; inside = l; below = e; settled = s; chains = λ w. (λ h. h, λ h. h) }
-    go false e = ok-need (Finished t r v) (related strict t r v) notStrict (λ _. try (derived t closed r v) λ p. ok (p.0, some p.1)) λ h.
+    go false e = ok-need (Finished t r v) (related strict t r v) not_strict (λ _. try (derived t closed r v) λ p. ok (p.0, some p.1)) λ h.
         let f = loose→free t r v (strict→loose t r v h) in
         ok-try (Derived t closed r v) (Finished t r v) (derived t closed r v) (λ p. ok (p.0, some p.1)) (derived-ok t g closed r v f) λ p d.
         let u = p.0 in let c = d.good in
@@ -127,8 +127,8 @@ finish-ok t g r v l s = go (related conforms t r v) refl
         }
 
 -- After a crossing to g: the place's type, the base's class being c
-abbrev pub nowType : Crossed → ℕ → ℕ → ℕ
-nowType x v c = or_else x.adapter (cond x.unwraps c v)
+abbrev pub now_type : Crossed → ℕ → ℕ → ℕ
+now_type x v c = or_else x.adapter (cond x.unwraps c v)
 
 abbrev pub Before : Table → Bool → ℕ → ℕ → ℕ → List ℕ → Type 0
 Before t true s v c w = Permits t c w
@@ -137,14 +137,14 @@ Before t false s v c w = Permits t s w × Permits t v w
 pub record Passed (t : Table) (s g v c : ℕ) (x : Crossed) : Type 0 where
   pub good : Good x.table
   pub grow : Grown t x.table
-  pub inside : nowType x v c < size x.table
-  pub below : So (related conforms x.table g (nowType x v c))
-  pub settled : Settled x.table (nowType x v c)
-  pub chains : (w : List ℕ) → (Permits x.table g w × Permits x.table (nowType x v c) w) ↔ (Permits x.table g w × Before x.table x.unwraps s v c w)
+  pub inside : now_type x v c < size x.table
+  pub below : So (related conforms x.table g (now_type x v c))
+  pub settled : Settled x.table (now_type x v c)
+  pub chains : (w : List ℕ) → (Permits x.table g w × Permits x.table (now_type x v c) w) ↔ (Permits x.table g w × Before x.table x.unwraps s v c w)
 
-module _ (t : Table) (good : Good t) (s g v c : ℕ) (vIn : v < size t) (cIn : c < size t) (vSolid : Settled t v) (cSolid : Settled t c) (sv : So (related conforms t s v)) where
+module _ (t : Table) (good : Good t) (s g v c : ℕ) (v_in : v < size t) (c_in : c < size t) (v_solid : Settled t v) (c_solid : Settled t c) (sv : So (related conforms t s v)) where
   own-ok : IfOk (try (finish t g c) λ p. ok (record { table = p.0; unwraps = true; adapter = p.1 })) (Passed t s g v c)
-  own-ok = ok-try (Finished t g c) (Passed t s g v c) (finish t g c) (λ p. ok (record { table = p.0; unwraps = true; adapter = p.1 })) (finish-ok t good g c cIn cSolid) λ p f.
+  own-ok = ok-try (Finished t g c) (Passed t s g v c) (finish t g c) (λ p. ok (record { table = p.0; unwraps = true; adapter = p.1 })) (finish-ok t good g c c_in c_solid) λ p f.
       record { good = f.good; grow = f.grow; inside = f.inside; below = f.below; settled = f.settled; chains = f.chains }
 
   pass-ok : So (related subtype t g s) → Passed t s g v c (record { table = t; unwraps = false; adapter = none })
@@ -152,18 +152,18 @@ module _ (t : Table) (good : Good t) (s g v c : ℕ) (vIn : v < size t) (cIn : c
       record {
         good = good;
         grow = grown-refl t;
-        inside = vIn;
+        inside = v_in;
         below = conforms-trans t good.cats g s v b sv;
-        settled = vSolid;
+        settled = v_solid;
         chains = λ w. (λ k. (k.0, (permits-between t w g s v b sv k.0 k.1, k.1)), λ k. (k.0, k.1.1));
       }
 
   sub-ok : So (related loose t g s) → IfOk (try (derived t sub g s) λ p. try (finish p.0 p.1 v) λ q. ok (record { table = q.0; unwraps = false; adapter = q.1 })) (Passed t s g v c)
   sub-ok h = ok-try (Derived t sub g s) (Passed t s g v c) (derived t sub g s) (λ p. try (finish p.0 p.1 v) λ q. ok (record { table = q.0; unwraps = false; adapter = q.1 }))
       (derived-ok t good sub g s (loose→free t g s h)) λ p d.
-      let vIn' : v < size p.0 = omega (arith, d.grow.more) in
+      let v_in' : v < size p.0 = omega (arith, d.grow.more) in
       ok-try (Finished p.0 p.1 v) (Passed t s g v c) (finish p.0 p.1 v) (λ q. ok (record { table = q.0; unwraps = false; adapter = q.1 }))
-      (finish-ok p.0 d.good p.1 v vIn' (settled-grow t p.0 d.grow v vIn vSolid)) λ q f.
+      (finish-ok p.0 d.good p.1 v v_in' (settled-grow t p.0 d.grow v v_in v_solid)) λ q f.
       let u = q.0 in let r = p.1 in
       let x = grown-trans d.grow f.grow in
       let h' = related-grow t u x loose g s h in
@@ -184,17 +184,17 @@ module _ (t : Table) (good : Good t) (s g v c : ℕ) (vIn : v < size t) (cIn : c
 
   pub typed-ok : (owns : Bool) → IfOk (typed t s g v c owns) (Passed t s g v c)
   unfolding typed
-  typed-ok owns = go (type_at t g).own_val (related subtype t g s) refl
+  typed-ok owns = go (type_at t g).own (related subtype t g s) refl
     where
       go : (b d : Bool) → related subtype t g s ≡ d → IfOk (elim b [
-        | true ↦ need (related free t g s) unrelated λ _. need owns notOwner λ _. try (finish t g c) λ p. ok (record { table = p.0; unwraps = true; adapter = p.1 })
+        | true ↦ need (related free t g s) unrelated λ _. need owns not_owner λ _. try (finish t g c) λ p. ok (record { table = p.0; unwraps = true; adapter = p.1 })
         | false ↦ need (related loose t g s) unrelated λ _. elim d [
           | true ↦ ok (record { table = t; unwraps = false; adapter = none })
           | false ↦ try (derived t sub g s) λ p. try (finish p.0 p.1 v) λ q. ok (record { table = q.0; unwraps = false; adapter = q.1 })
         ]
       ]) (Passed t s g v c)
-      go true d e = ok-need (Passed t s g v c) (related free t g s) unrelated (λ _. need owns notOwner λ _. try (finish t g c) λ p. ok (record { table = p.0; unwraps = true; adapter = p.1 })) λ h.
-          ok-need (Passed t s g v c) owns notOwner (λ _. try (finish t g c) λ p. ok (record { table = p.0; unwraps = true; adapter = p.1 })) λ k. own-ok
+      go true d e = ok-need (Passed t s g v c) (related free t g s) unrelated (λ _. need owns not_owner λ _. try (finish t g c) λ p. ok (record { table = p.0; unwraps = true; adapter = p.1 })) λ h.
+          ok-need (Passed t s g v c) owns not_owner (λ _. try (finish t g c) λ p. ok (record { table = p.0; unwraps = true; adapter = p.1 })) λ k. own-ok
       go false true e = ok-need (Passed t s g v c) (related loose t g s) unrelated (λ _. ok (record { table = t; unwraps = false; adapter = none })) λ h. pass-ok e
       go false false e = ok-need (Passed t s g v c) (related loose t g s) unrelated
           (λ _. try (derived t sub g s) λ p. try (finish p.0 p.1 v) λ q. ok (record { table = q.0; unwraps = false; adapter = q.1 })) λ h. sub-ok h

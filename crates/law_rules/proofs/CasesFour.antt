@@ -5,14 +5,14 @@ use mathlib.Core.Bool.{true}
 use mathlib.Core.List.{[], ◌∷◌}
 use mathlib.Core.Option.{none}
 use lib.IntN.{pos}
-use Rattle.spec_model.specs.Table.{denied, avail, unavail, Table, validSheet, signed, bare}
+use Rattle.spec_model.specs.Table.{denied, avail, unavail, Table, valid_sheet, signed, bare}
 use Rattle.spec_model.specs.Crossing.{object, adapter}
 use Rattle.spec_model.specs.Requests.{got, refused, pair, loaded, run}
-use Rattle.spec_model.proofs.CasesWords.{type, sheetOf, cell, new', move', call'}
+use Rattle.spec_model.proofs.CasesWords.{type, sheet_of, cell, new', move', call'}
 use Rattle.spec_model.proofs.CasesWorked.{Works}
 
-abbrev passingFour : Table
-passingFour = sheetOf 2 3 (
+abbrev passing_four : Table
+passing_four = sheet_of 2 3 (
     type (signed avail (1 ∷ 2 ∷ 1 ∷ 2 ∷ []) none ∷ bare avail ∷ bare avail ∷ [])
     ∷ type (bare denied ∷ bare avail ∷ bare denied ∷ [])
     ∷ type (bare unavail ∷ bare avail ∷ bare denied ∷ [])
@@ -20,14 +20,14 @@ passingFour = sheetOf 2 3 (
     ∷ type (bare unavail ∷ signed avail (1 ∷ []) none ∷ bare unavail ∷ [])
     ∷ [])
 
-pub four-valid : validSheet passingFour ≡ true
-unfolding validSheet
+pub four-valid : valid_sheet passing_four ≡ true
+unfolding valid_sheet
 four-valid = refl
 
 -- Four references of different objects. One that cannot cross is refused with 8 at each of the four positions, and leaves nothing (C20); then all four cross, and the owner has a
 -- cell for each, in order, of the class's argument types, in front of its own object (C10, C17).
 pub four-worked : Works (record {
-  state = loaded passingFour;
+  state = loaded passing_four;
   requests =
       new' 0 0 3
       ∷ move' 0 0 1 3

@@ -11,9 +11,9 @@ use lib.IntN.{ℤ}
 use Rattle.spec_model.specs.Basics.{Res, refuse, ok, try, need}
 use Rattle.spec_model.specs.Table.{Rep, ref, w32, w64, Table, type_at}
 use Rattle.spec_model.specs.Crossing.{Reference, cross}
-use Rattle.spec_model.specs.Requests.{atLayer, renumber, crossLayers, within, passLayers}
+use Rattle.spec_model.specs.Requests.{at_layer, renumber, cross_layers, within, pass_layers}
 use Rattle.spec_model.proofs.Tests.{eqb_no}
-use Rattle.spec_model.specs.Refusals.{unrelated, notStrict, tooWide, laterLayer}
+use Rattle.spec_model.specs.Refusals.{unrelated, not_strict, too_wide, later_layer}
 use Rattle.law_model.proofs.Steps.{IfOk, whatever}
 
 -- P holds of the number of a refusal, if it is one
@@ -31,12 +31,12 @@ refused-try P Q (ok a) k h q f = f a q
 
 -- ---- C13: 8 and 10 are the first layer's own
 abbrev pub Later : ℕ → Type 0
-Later e = (e ≢ unrelated) × (e ≢ notStrict)
+Later e = (e ≢ unrelated) × (e ≢ not_strict)
 
-later_of : (e : ℕ) → Later (atLayer false e)
-later_of e = go (eqb e unrelated) (eqb e notStrict) refl refl
+later_of : (e : ℕ) → Later (at_layer false e)
+later_of e = go (eqb e unrelated) (eqb e not_strict) refl refl
   where
-    go : (a b : Bool) → eqb e unrelated ≡ a → eqb e notStrict ≡ b → Later (cond (a || b) laterLayer e)
+    go : (a b : Bool) → eqb e unrelated ≡ a → eqb e not_strict ≡ b → Later (cond (a || b) later_layer e)
     go true b p q = ((λ z. omega arith), λ z. omega arith)
     go false true p q = ((λ z. omega arith), λ z. omega arith)
     go false false p q = (eqb_no p, eqb_no q)
@@ -46,21 +46,21 @@ renumber-later (refuse e) = later_of e
 renumber-later (ok a) = tt
 
 -- A reference that has passed the first layer is never refused with 8 or 10.
-pub later-number : (ts : List (Option ℕ)) (f : Reference) (r : ℕ) → IfRefused (crossLayers false f r ts) Later
-unfolding crossLayers
+pub later-number : (ts : List (Option ℕ)) (f : Reference) (r : ℕ) → IfRefused (cross_layers false f r ts) Later
+unfolding cross_layers
 later-number [] f r = tt
 later-number (none ∷ ts) f r = later_of unrelated
 later-number (some to ∷ ts) f r = let m = renumber false (cross f to r) in
     refused-try Later (λ _. Unit {0}) m _ (renumber-later (cross f to r)) (whatever m) λ g _. later-number ts g r
 
 -- What the first crossing is refused with, the reference is refused with.
-pub first-number : (f : Reference) (to r e : ℕ) (ts : List (Option ℕ)) → cross f to r ≡ refuse e → crossLayers true f r (some to ∷ ts) ≡ refuse e
-unfolding crossLayers
-first-number f to r e ts h = ap (λ m. try (renumber true m) λ g. crossLayers false g r ts) h
+pub first-number : (f : Reference) (to r e : ℕ) (ts : List (Option ℕ)) → cross f to r ≡ refuse e → cross_layers true f r (some to ∷ ts) ≡ refuse e
+unfolding cross_layers
+first-number f to r e ts h = ap (λ m. try (renumber true m) λ g. cross_layers false g r ts) h
 
 -- ---- C14, C15: a number meets 16, or a layer that is unfit for it: 8 at the first, 19 later
 abbrev pub NumberRefusal : Bool → ℕ → Type 0
-NumberRefusal first e = (e ≡ tooWide) ⊎ ((e ≡ atLayer first unrelated) ⊎ (e ≡ laterLayer))
+NumberRefusal first e = (e ≡ too_wide) ⊎ ((e ≡ at_layer first unrelated) ⊎ (e ≡ later_layer))
 
 late : (b : Bool) (e : ℕ) → NumberRefusal false e → NumberRefusal b e
 late b e (inl q) = inl q
@@ -71,17 +71,17 @@ refused-map : {A : Type 0} (P Q : ℕ → Type 0) → ((e : ℕ) → P e → Q e
 refused-map P Q f (refuse e) h = f e h
 refused-map P Q f (ok a) h = tt
 
-pub number-refusals : (ts : List (Option ℕ)) (b : Bool) (t : Table) (v : ℤ) → IfRefused (passLayers b t v ts) (NumberRefusal b)
-unfolding passLayers
+pub number-refusals : (ts : List (Option ℕ)) (b : Bool) (t : Table) (v : ℤ) → IfRefused (pass_layers b t v ts) (NumberRefusal b)
+unfolding pass_layers
 number-refusals [] b t v = tt
 number-refusals (none ∷ ts) b t v = inr (inl refl)
-number-refusals (some a ∷ ts) b t v = go (type_at t a).rep (refused-map (NumberRefusal false) (NumberRefusal b) (late b) (passLayers false t v ts) (number-refusals ts false t v))
+number-refusals (some a ∷ ts) b t v = go (type_at t a).rep (refused-map (NumberRefusal false) (NumberRefusal b) (late b) (pass_layers false t v ts) (number-refusals ts false t v))
   where
-    go : (r : Rep) → IfRefused (passLayers false t v ts) (NumberRefusal b) → IfRefused {A = Unit {0}} (elim r [
-      | ref ↦ refuse (atLayer b unrelated)
-      | w32 ↦ need (within 2147483648 v) tooWide λ _. passLayers false t v ts
-      | w64 ↦ passLayers false t v ts
+    go : (r : Rep) → IfRefused (pass_layers false t v ts) (NumberRefusal b) → IfRefused {A = Unit {0}} (elim r [
+      | ref ↦ refuse (at_layer b unrelated)
+      | w32 ↦ need (within 2147483648 v) too_wide λ _. pass_layers false t v ts
+      | w64 ↦ pass_layers false t v ts
     ]) (NumberRefusal b)
     go ref h = inr (inl refl)
-    go w32 h = refused-need (NumberRefusal b) (within 2147483648 v) tooWide _ (inl refl) h
+    go w32 h = refused-need (NumberRefusal b) (within 2147483648 v) too_wide _ (inl refl) h
     go w64 h = h

@@ -8,7 +8,7 @@ use Rattle.spec_model.specs.Basics.{Res, refuse, ok}
 use Rattle.spec_model.specs.Table.{Rep, ref, w32, w64}
 use Rattle.spec_model.specs.Refusals.{form}
 use Rattle.spec_sheet.specs.Lines.{Row, row, cut, join, Reading, refused, got, Reader, pure, line_at, line, follow, bind, times}
-use Rattle.spec_sheet.specs.Sheet.{underLine, ownLine, methodLine, members, oneType, body}
+use Rattle.spec_sheet.specs.Sheet.{under_line, own_line, method_line, members, one_type, body}
 use Rattle.spec_sheet.proofs.Lines.{rows, rows_append}
 use Rattle.spec_sheet.proofs.Offsets.{join-append}
 
@@ -28,7 +28,7 @@ pub record Took {A : Type 0} (p : Reader A) (at : ℕ) (rs : List Row) (x : A) (
 pub data Wrong {A : Type 0} (p : Reader A) (at : ℕ) (ls : List (List ℕ)) (rest : List Row) (n k : ℕ) : Type 0 where
   missing : rest ≡ [] → n ≡ form → Wrong p at ls rest n k
   unended : (l : List ℕ) (qs : List Row) → rest ≡ cut l ∷ qs → n ≡ form → Wrong p at ls rest n k
-  atFault : (l : List ℕ) (qs : List Row) → rest ≡ row l ∷ qs → ((os : List Row) → p at (rows ls ++ (row l ∷ os)) ≡ refused n k) → Wrong p at ls rest n k
+  at_fault : (l : List ℕ) (qs : List Row) → rest ≡ row l ∷ qs → ((os : List Row) → p at (rows ls ++ (row l ∷ os)) ≡ refused n k) → Wrong p at ls rest n k
 
 -- Refused: the offset is behind whole lines that are right, since nothing that follows them is refused in front of it; and what stands there is wrong.
 pub record Stopped {A : Type 0} (p : Reader A) (at : ℕ) (rs : List Row) (n k : ℕ) : Type 0 where
@@ -68,7 +68,7 @@ line-local {A} f at rs = go rs
         one (ok x) = omega arith
 
     answered : (l : List ℕ) (qs : List Row) (r : Res A) → f l ≡ r → Came (line f) at (row l ∷ qs) (line_at r at l qs)
-    answered l qs (refuse n) e = record { lines = []; rest = row l ∷ qs; passed = refl; offset = omega arith; right = later; wrong = atFault l qs refl (λ os. ap (λ z. line_at z at l os) e) }
+    answered l qs (refuse n) e = record { lines = []; rest = row l ∷ qs; passed = refl; offset = omega arith; right = later; wrong = at_fault l qs refl (λ os. ap (λ z. line_at z at l os) e) }
     answered l qs (ok x) e = let n : length (l ++ 10 ∷ []) ≡ length l + 1 = length-append l (10 ∷ []) in
         record { lines = l ∷ []; passed = refl; offset = omega arith; always = λ os. ap (λ z. line_at z at l os) e }
 
@@ -93,7 +93,7 @@ module _ {A B : Type 0} (p : Reader A) (k : A → Reader B) where
   pub wrong-on : (at : ℕ) (ls : List (List ℕ)) (rest : List Row) (n c : ℕ) → Wrong p at ls rest n c → Wrong (bind p k) at ls rest n c
   wrong-on at ls rest n c (missing e f) = missing e f
   wrong-on at ls rest n c (unended l qs e f) = unended l qs e f
-  wrong-on at ls rest n c (atFault l qs e f) = atFault l qs e (λ os. ap (λ z. follow z k) (f os))
+  wrong-on at ls rest n c (at_fault l qs e f) = at_fault l qs e (λ os. ap (λ z. follow z k) (f os))
 
   module _ (at : ℕ) (rs : List Row) (x : A) (a : ℕ) (q : List Row) (w : Took p at rs x a q) where
     -- behind what the first took the second goes on
@@ -112,7 +112,7 @@ module _ {A B : Type 0} (p : Reader A) (k : A → Reader B) where
     wrong-behind : (ls : List (List ℕ)) (rest : List Row) (n c : ℕ) → Wrong (k x) a ls rest n c → Wrong (bind p k) at (w.lines ++ ls) rest n c
     wrong-behind ls rest n c (missing e f) = missing e f
     wrong-behind ls rest n c (unended l qs e f) = unended l qs e f
-    wrong-behind ls rest n c (atFault l qs e f) = atFault l qs e (λ os. second ls (row l ∷ os) ∙ f os)
+    wrong-behind ls rest n c (at_fault l qs e f) = at_fault l qs e (λ os. second ls (row l ∷ os) ∙ f os)
 
     pub goes_on : (r : Reading B) → Came (k x) a q r → Came (bind p k) at rs r
     goes_on (refused n c) v = record {
@@ -149,17 +149,17 @@ times-local p h (suc n) i acc = bind-local (p i) (λ x. times p n (suc i) (acc +
 -- ---- all lines of a sheet but the last
 members-local : (m n : ℕ) (r : Rep) (c : ℕ) → Local (members m n r c)
 unfolding members
-members-local m n ref c = bind-local (line ownLine) _ (line-local ownLine) λ o.
-    bind-local (times (λ j. line (methodLine n)) m 0 []) _ (times-local (λ j. line (methodLine n)) (λ j. line-local (methodLine n)) m 0 []) λ ms. pure-local _
+members-local m n ref c = bind-local (line own_line) _ (line-local own_line) λ o.
+    bind-local (times (λ j. line (method_line n)) m 0 []) _ (times-local (λ j. line (method_line n)) (λ j. line-local (method_line n)) m 0 []) λ ms. pure-local _
 members-local m n w32 c = pure-local _
 members-local m n w64 c = pure-local _
 
-type-local : (m c n i : ℕ) → Local (oneType m c n i)
-unfolding oneType
+type-local : (m c n i : ℕ) → Local (one_type m c n i)
+unfolding one_type
 type-local m c n i = bind-local (line _) _ (line-local _) λ x. bind-local (line _) _ (line-local _) λ r. bind-local (line _) _ (line-local _) λ k. members-local m n r k
 
 pub body-local : Local body
 unfolding body
 body-local = bind-local (line _) _ (line-local _) λ g. bind-local (line _) _ (line-local _) λ s. bind-local (line _) _ (line-local _) λ m. bind-local (line _) _ (line-local _) λ c.
-    bind-local (times (λ k. line (underLine c k)) c 1 []) _ (times-local (λ k. line (underLine c k)) (λ k. line-local (underLine c k)) c 1 []) λ us. bind-local (line _) _ (line-local _) λ n.
-    bind-local (times (oneType m c n) n 0 []) _ (times-local (oneType m c n) (type-local m c n) n 0 []) λ ts. pure-local _
+    bind-local (times (λ k. line (under_line c k)) c 1 []) _ (times-local (λ k. line (under_line c k)) (λ k. line-local (under_line c k)) c 1 []) λ us. bind-local (line _) _ (line-local _) λ n.
+    bind-local (times (one_type m c n) n 0 []) _ (times-local (one_type m c n) (type-local m c n) n 0 []) λ ts. pure-local _

@@ -8,40 +8,40 @@ use native.Mathlib.Omega.{arith}
 use lib.Dec.{ltb}
 use lib.Seq.{get_or-set_same}
 use Rattle.spec_model.specs.Basics.{then}
-use Rattle.spec_model.specs.Table.{Kind, Key, Method, Table, noType, maxTypes, size, type_at, permit, signed, bare}
-use Rattle.spec_model.specs.Restriction.{restricted, argKind, answerKind, withoutNew, entry, pending, Derivation, deriveArgs, deriveAnswer, deriveMethod, deriveMethods, make, derive}
+use Rattle.spec_model.specs.Table.{Kind, Key, Method, Table, no_type, max_types, size, type_at, permit, signed, bare}
+use Rattle.spec_model.specs.Restriction.{restricted, arg_kind, answer_kind, without_new, entry, pending, Derivation, derive_args, derive_answer, derive_method, derive_methods, make, derive}
 use Rattle.spec_model.proofs.Growth.{Grown, grown-refl, grown-trans}
 use Rattle.law_model.proofs.Deriving.{IfSome, some_then, some-room, pushed, stored, pushed-size, derive-grown}
 use Rattle.law_model.proofs.Fuel.{derive-self}
 use Rattle.law_rules.proofs.Derivation.{key_of}
 
 -- ---- what a new type asks for, in order: method by method, the arguments by position, then the answer
-abbrev pub argumentsAsked : Kind → List ℕ → List ℕ → List Key
-argumentsAsked d [] ys = []
-argumentsAsked d (x ∷ xs) [] = []
-argumentsAsked d (x ∷ xs) (y ∷ ys) = key_of (argKind d) y x ∷ argumentsAsked d xs ys
+abbrev pub arguments_asked : Kind → List ℕ → List ℕ → List Key
+arguments_asked d [] ys = []
+arguments_asked d (x ∷ xs) [] = []
+arguments_asked d (x ∷ xs) (y ∷ ys) = key_of (arg_kind d) y x ∷ arguments_asked d xs ys
 
-abbrev pub answerAsked : Kind → Option ℕ → Option ℕ → List Key
-answerAsked d none y = []
-answerAsked d (some x) none = []
-answerAsked d (some x) (some y) = key_of (answerKind d) x y ∷ []
+abbrev pub answer_asked : Kind → Option ℕ → Option ℕ → List Key
+answer_asked d none y = []
+answer_asked d (some x) none = []
+answer_asked d (some x) (some y) = key_of (answer_kind d) x y ∷ []
 
-abbrev pub methodAsked : Kind → Method → Method → List Key
-methodAsked d x y = cond (permit (restricted d x.state y.state)) (argumentsAsked d x.args y.args ++ answerAsked d x.answer y.answer) []
+abbrev pub method_asked : Kind → Method → Method → List Key
+method_asked d x y = cond (permit (restricted d x.state y.state)) (arguments_asked d x.args y.args ++ answer_asked d x.answer y.answer) []
 
 abbrev pub asked : Kind → List Method → List Method → List Key
 asked d [] ys = []
 asked d (x ∷ xs) [] = []
-asked d (x ∷ xs) (y ∷ ys) = methodAsked d x y ++ asked d xs ys
+asked d (x ∷ xs) (y ∷ ys) = method_asked d x y ++ asked d xs ys
 
 -- the types that methods name, in the same order
-abbrev pub answerNamed : Option ℕ → List ℕ
-answerNamed none = []
-answerNamed (some x) = x ∷ []
+abbrev pub answer_named : Option ℕ → List ℕ
+answer_named none = []
+answer_named (some x) = x ∷ []
 
 abbrev pub named : List Method → List ℕ
 named [] = []
-named (x ∷ xs) = (x.args ++ answerNamed x.answer) ++ named xs
+named (x ∷ xs) = (x.args ++ answer_named x.answer) ++ named xs
 
 -- From table t the keys ks are derived, by rec, one after the other, each from the table that the one before left; they get the numbers ns and leave table u.
 abbrev pub InTurn : Derivation → Table → List Key → List ℕ → Table → Type 0
@@ -63,40 +63,40 @@ module _ (rec : Derivation) where
   whole (some a) = refl
 
   module _ (d : Kind) where
-    arguments-turn : (xs ys : List ℕ) (t : Table) → IfSome (deriveArgs rec d t xs ys) (λ p. InTurn rec t (argumentsAsked d xs ys) p.1 p.0)
-    unfolding deriveArgs
+    arguments-turn : (xs ys : List ℕ) (t : Table) → IfSome (derive_args rec d t xs ys) (λ p. InTurn rec t (arguments_asked d xs ys) p.1 p.0)
+    unfolding derive_args
     arguments-turn [] ys t = refl
     arguments-turn (x ∷ xs) [] t = refl
-    arguments-turn (x ∷ xs) (y ∷ ys) t = some_then _ _ (rec t (argKind d) y x) _ (whole (rec t (argKind d) y x)) λ p e.
-        some_then _ _ (deriveArgs rec d p.0 xs ys) _ (arguments-turn xs ys p.0) λ q h. (p.0, e, h)
+    arguments-turn (x ∷ xs) (y ∷ ys) t = some_then _ _ (rec t (arg_kind d) y x) _ (whole (rec t (arg_kind d) y x)) λ p e.
+        some_then _ _ (derive_args rec d p.0 xs ys) _ (arguments-turn xs ys p.0) λ q h. (p.0, e, h)
 
-    answer-turn : (x y : Option ℕ) (t : Table) → IfSome (deriveAnswer rec d t x y) (λ p. InTurn rec t (answerAsked d x y) (answerNamed p.1) p.0)
-    unfolding deriveAnswer
+    answer-turn : (x y : Option ℕ) (t : Table) → IfSome (derive_answer rec d t x y) (λ p. InTurn rec t (answer_asked d x y) (answer_named p.1) p.0)
+    unfolding derive_answer
     answer-turn none y t = refl
     answer-turn (some x) none t = refl
-    answer-turn (some x) (some y) t = some_then _ _ (rec t (answerKind d) x y) _ (whole (rec t (answerKind d) x y)) λ p e. (p.0, e, refl)
+    answer-turn (some x) (some y) t = some_then _ _ (rec t (answer_kind d) x y) _ (whole (rec t (answer_kind d) x y)) λ p e. (p.0, e, refl)
 
-    method-turn : (x y : Method) (t : Table) → IfSome (deriveMethod rec d t x y) (λ p. InTurn rec t (methodAsked d x y) (p.1.args ++ answerNamed p.1.answer) p.0)
-    unfolding deriveMethod
+    method-turn : (x y : Method) (t : Table) → IfSome (derive_method rec d t x y) (λ p. InTurn rec t (method_asked d x y) (p.1.args ++ answer_named p.1.answer) p.0)
+    unfolding derive_method
     method-turn x y t = go (permit (restricted d x.state y.state))
       where
         go : (b : Bool) → IfSome {A = Table × Method} (elim b [
           | false ↦ some (t, bare (restricted d x.state y.state))
-          | true ↦ then (deriveArgs rec d t x.args y.args) λ p. then (deriveAnswer rec d p.0 x.answer y.answer) λ q.
+          | true ↦ then (derive_args rec d t x.args y.args) λ p. then (derive_answer rec d p.0 x.answer y.answer) λ q.
               some (q.0, signed (restricted d x.state y.state) p.1 q.1)
-        ]) (λ p. InTurn rec t (cond b (argumentsAsked d x.args y.args ++ answerAsked d x.answer y.answer) []) (p.1.args ++ answerNamed p.1.answer) p.0)
+        ]) (λ p. InTurn rec t (cond b (arguments_asked d x.args y.args ++ answer_asked d x.answer y.answer) []) (p.1.args ++ answer_named p.1.answer) p.0)
         go false = refl
-        go true = some_then _ _ (deriveArgs rec d t x.args y.args) _ (arguments-turn x.args y.args t) λ p h.
-            some_then _ _ (deriveAnswer rec d p.0 x.answer y.answer) _ (answer-turn x.answer y.answer p.0) λ q k.
-            turns-append (argumentsAsked d x.args y.args) (answerAsked d x.answer y.answer) p.1 (answerNamed q.1) t p.0 q.0 h k
+        go true = some_then _ _ (derive_args rec d t x.args y.args) _ (arguments-turn x.args y.args t) λ p h.
+            some_then _ _ (derive_answer rec d p.0 x.answer y.answer) _ (answer-turn x.answer y.answer p.0) λ q k.
+            turns-append (arguments_asked d x.args y.args) (answer_asked d x.answer y.answer) p.1 (answer_named q.1) t p.0 q.0 h k
 
-    pub methods-turn : (xs ys : List Method) (t : Table) → IfSome (deriveMethods rec d t xs ys) (λ p. InTurn rec t (asked d xs ys) (named p.1) p.0)
-    unfolding deriveMethods
+    pub methods-turn : (xs ys : List Method) (t : Table) → IfSome (derive_methods rec d t xs ys) (λ p. InTurn rec t (asked d xs ys) (named p.1) p.0)
+    unfolding derive_methods
     methods-turn [] ys t = refl
     methods-turn (x ∷ xs) [] t = refl
-    methods-turn (x ∷ xs) (y ∷ ys) t = some_then _ _ (deriveMethod rec d t x y) _ (method-turn x y t) λ p h.
-        some_then _ _ (deriveMethods rec d p.0 xs ys) _ (methods-turn xs ys p.0) λ q k.
-        turns-append (methodAsked d x y) (asked d xs ys) (p.1.args ++ answerNamed p.1.answer) (named q.1) t p.0 q.0 h k
+    methods-turn (x ∷ xs) (y ∷ ys) t = some_then _ _ (derive_method rec d t x y) _ (method-turn x y t) λ p h.
+        some_then _ _ (derive_methods rec d p.0 xs ys) _ (methods-turn xs ys p.0) λ q k.
+        turns-append (method_asked d x y) (asked d xs ys) (p.1.args ++ answer_named p.1.answer) (named q.1) t p.0 q.0 h k
 
 -- numbers are only added on the way
 pub turns-grow : (f : ℕ) (ks : List Key) (ns : List ℕ) (t u : Table) → InTurn (derive f) t ks ns u → Grown t u
@@ -110,7 +110,7 @@ turns-grow f (k ∷ ks) (n ∷ ns) t u p = grown-trans (subst (λ o. IfSome o (�
 pub record Anew (f : ℕ) (t : Table) (d : Kind) (l r : ℕ) (x : Table × ℕ) : Type 0 where
   pub number : x.1 ≡ size t
   pub key : (type_at x.0 (size t)).key ≡ some (key_of d l r)
-  pub own : (type_at x.0 (size t)).own_val ≡ false
+  pub own : (type_at x.0 (size t)).own ≡ false
   pub last : Table
   pub turns : InTurn (derive f) (pushed t (pending t d l r)) (asked d (type_at t l).methods (type_at t r).methods) (named (type_at x.0 (size t)).methods) last
   pub result : x.0 ≡ stored last (size t) (type_at x.0 (size t))
@@ -127,7 +127,7 @@ module _ (f : ℕ) (t : Table) (d : Kind) (l r : ℕ) where
   new-anew p h =
       let g = turns-grow f signatures (named p.1) start p.0 h in
       let e = entry t d l r p.1 in
-      let w : type_at (stored p.0 (size t) e) (size t) ≡ e = get_or-set_same p.0.types (size t) e noType (omega (arith, g.more, pushed-size t (pending t d l r))) in
+      let w : type_at (stored p.0 (size t) e) (size t) ≡ e = get_or-set_same p.0.types (size t) e no_type (omega (arith, g.more, pushed-size t (pending t d l r))) in
       record {
         number = refl;
         key = ap (λ y. y.key) w;
@@ -137,18 +137,18 @@ module _ (f : ℕ) (t : Table) (d : Kind) (l r : ℕ) where
         result = ap (stored p.0 (size t)) (sym w);
       }
 
-  pub make-anew : withoutNew t d l r ≡ none → IfSome (make (derive f) t d l r) (Anew f t d l r)
+  pub make-anew : without_new t d l r ≡ none → IfSome (make (derive f) t d l r) (Anew f t d l r)
   unfolding make start signatures
-  make-anew e = go (withoutNew t d l r) e
+  make-anew e = go (without_new t d l r) e
     where
       rest : Option (Table × ℕ)
-      rest = then (deriveMethods (derive f) d start (type_at t l).methods (type_at t r).methods) λ p. some (stored p.0 (size t) (entry t d l r p.1), size t)
+      rest = then (derive_methods (derive f) d start (type_at t l).methods (type_at t r).methods) λ p. some (stored p.0 (size t) (entry t d l r p.1), size t)
 
-      go : (o : Option ℕ) → o ≡ none → IfSome {A = Table × ℕ} (elim o [ some i ↦ some (t, i) | none ↦ elim (ltb (size t) maxTypes) [ false ↦ none | true ↦ rest ] ]) (Anew f t d l r)
+      go : (o : Option ℕ) → o ≡ none → IfSome {A = Table × ℕ} (elim o [ some i ↦ some (t, i) | none ↦ elim (ltb (size t) max_types) [ false ↦ none | true ↦ rest ] ]) (Anew f t d l r)
       go (some i) e = let z : ◌≡◌ {A = ℕ} 0 1 = cc in absurd (omega arith)
-      go none e = some-room (Anew f t d l r) (ltb (size t) maxTypes) rest λ h.
-          some_then _ (Anew f t d l r) (deriveMethods (derive f) d start (type_at t l).methods (type_at t r).methods) _
+      go none e = some-room (Anew f t d l r) (ltb (size t) max_types) rest λ h.
+          some_then _ (Anew f t d l r) (derive_methods (derive f) d start (type_at t l).methods (type_at t r).methods) _
           (methods-turn (derive f) d (type_at t l).methods (type_at t r).methods start) new-anew
 
-pub made-anew : (t : Table) (d : Kind) (l r : ℕ) → withoutNew t d l r ≡ none → IfSome (derive maxTypes t d l r) (Anew maxTypes t d l r)
-made-anew t d l r e = subst (λ o. IfSome o (Anew maxTypes t d l r)) (sym (derive-self t d l r)) (make-anew maxTypes t d l r e)
+pub made-anew : (t : Table) (d : Kind) (l r : ℕ) → without_new t d l r ≡ none → IfSome (derive max_types t d l r) (Anew max_types t d l r)
+made-anew t d l r e = subst (λ o. IfSome o (Anew max_types t d l r)) (sym (derive-self t d l r)) (make-anew max_types t d l r e)

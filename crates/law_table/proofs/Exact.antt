@@ -12,25 +12,25 @@ use borrow.Author.Tests.{lt-ltb, le-ltb}
 use lib.ListN.{length, get_or, take, drop, replicate, length-append, length-replicate, get_or-eq_default}
 use lib.Seq.{sets, sets-eq, get_or-take, length-take-le, take-append_seam, drop-append-add}
 use Rattle.spec_model.specs.Basics.{from}
-use Rattle.spec_model.specs.Table.{permit, Method, noMethod, maxMethods}
-use Rattle.spec_model.specs.Check.{RawMethod, RawType, noRawMethod, state_of, repOf, kind_of, methodOf}
+use Rattle.spec_model.specs.Table.{permit, Method, no_method, max_methods}
+use Rattle.spec_model.specs.Check.{RawMethod, RawType, no_raw_method, state_of, rep_of, kind_of, method_of}
 use Rattle.spec_model.specs.Relations.{bit}
-use Rattle.spec_model.specs.Records.{repCode, kindCode, keyCodes, methodRecord, argumentSlots}
-use Rattle.spec_model.proofs.Largest.{getD-from-out}
+use Rattle.spec_model.specs.Records.{rep_code, kind_code, key_codes, method_record, argument_slots}
+use Rattle.spec_model.proofs.Largest.{get_or-from-out}
 use Rattle.spec_model.proofs.Codes.{code-back}
 use Rattle.table_record.specs.Records.{padded}
-use Rattle.table_record.specs.Store.{blankMethod, MethodExact, TypeExact}
+use Rattle.table_record.specs.Store.{blank_method, MethodExact, TypeExact}
 use Rattle.table_record.proofs.Lists.{lt-or-ge, from_first, is-from}
 use Rattle.table_record.proofs.Laws.{four}
 use Rattle.table_record.proofs.Codes.{number-rep, ref-rep, state-back}
 
-pub kind-back : (k : ℕ) → k < 3 → kindCode (kind_of k) ≡ k
+pub kind-back : (k : ℕ) → k < 3 → kind_code (kind_of k) ≡ k
 kind-back zero h = refl
 kind-back (suc zero) h = refl
 kind-back (suc (suc zero)) h = refl
 kind-back (suc (suc (suc k))) h = absurd (not-suc-le-zero (le_of_suc-le-suc (le_of_suc-le-suc (le_of_suc-le-suc h))))
 
-pub rep-back : (r : ℕ) → r < 3 → repCode (repOf r) ≡ r
+pub rep-back : (r : ℕ) → r < 3 → rep_code (rep_of r) ≡ r
 rep-back zero h = refl
 rep-back (suc zero) h = refl
 rep-back (suc (suc zero)) h = refl
@@ -60,7 +60,7 @@ pub unsigned-exact : (s : ℕ) → s < 4 → permit (state_of s) ≡ false → M
 unfolding mk from
 unsigned-exact s h p = rw p (mk-eq (state-back s h) refl refl refl)
 
-pub signed-exact : (m : RawMethod) → m.state < 4 → permit (state_of m.state) ≡ true → m.count ≤ argumentSlots → length m.args ≡ argumentSlots
+pub signed-exact : (m : RawMethod) → m.state < 4 → permit (state_of m.state) ≡ true → m.count ≤ argument_slots → length m.args ≡ argument_slots
     → ((k : ℕ) → m.count ≤ k → get_or m.args k 0 ≡ 0) → MethodExact m
 unfolding mk from
 signed-exact m h p n l z =
@@ -71,7 +71,7 @@ signed-exact m h p n l z =
 
 -- the codes of the key of type i: none for a sheet type
 abbrev pub KeyExact : ℕ → ℕ → RawType → Type 0
-KeyExact sh i x = keyCodes (cond (ltb i sh) none (some (record { kind = kind_of x.kind; left = x.left; right = x.right }))) ≡ (x.kind, x.left, x.right)
+KeyExact sh i x = key_codes (cond (ltb i sh) none (some (record { kind = kind_of x.kind; left = x.left; right = x.right }))) ≡ (x.kind, x.left, x.right)
 
 module _ (sh i : ℕ) (x : RawType) where
   pub sheet-key : i < sh → x.kind ≡ 0 → x.left ≡ 0 → x.right ≡ 0 → KeyExact sh i x
@@ -85,38 +85,38 @@ own_back zero h = refl
 own_back (suc zero) h = refl
 own_back (suc (suc n)) h = absurd (not-suc-le-zero (le_of_suc-le-suc (le_of_suc-le-suc h)))
 
-mkT : ℕ → ℕ → ℕ → ℕ × ℕ × ℕ → List RawMethod → RawType
-mkT r c o k ms = record { rep = r; cat = c; own_val = o; kind = k.0; left = k.1; right = k.2; methods = ms }
+mk_t : ℕ → ℕ → ℕ → ℕ × ℕ × ℕ → List RawMethod → RawType
+mk_t r c o k ms = record { rep = r; cat = c; own = o; kind = k.0; left = k.1; right = k.2; methods = ms }
 
-mkT-eq : {r o r' o' : ℕ} (c : ℕ) {k k' : ℕ × ℕ × ℕ} {m m' : List RawMethod} → r ≡ r' → o ≡ o' → k ≡ k' → m ≡ m'
-    → mkT r c o k m ≡ mkT r' c o' k' m'
-mkT-eq c p q s t = cc
+mk_t-eq : {r o r' o' : ℕ} (c : ℕ) {k k' : ℕ × ℕ × ℕ} {m m' : List RawMethod} → r ≡ r' → o ≡ o' → k ≡ k' → m ≡ m'
+    → mk_t r c o k m ≡ mk_t r' c o' k' m'
+mk_t-eq c p q s t = cc
 
-module _ (ms sh i : ℕ) (x : RawType) (l : length x.methods ≡ maxMethods) (key : KeyExact sh i x) where
-  stored-methods : (ys : List Method) → ((j : ℕ) → j < maxMethods → get_or x.methods j noRawMethod ≡ methodRecord (get_or ys j noMethod))
-      → from maxMethods 0 (λ j. methodRecord (get_or ys j noMethod)) ≡ x.methods
-  stored-methods ys h = is-from (λ j. methodRecord (get_or ys j noMethod)) maxMethods noRawMethod x.methods l h
+module _ (ms sh i : ℕ) (x : RawType) (l : length x.methods ≡ max_methods) (key : KeyExact sh i x) where
+  stored-methods : (ys : List Method) → ((j : ℕ) → j < max_methods → get_or x.methods j no_raw_method ≡ method_record (get_or ys j no_method))
+      → from max_methods 0 (λ j. method_record (get_or ys j no_method)) ≡ x.methods
+  stored-methods ys h = is-from (λ j. method_record (get_or ys j no_method)) max_methods no_raw_method x.methods l h
 
   -- A reference type whose methods are exact, and blank behind the last.
-  pub ref-exact : x.rep ≡ 0 → x.own < 2 → ((j : ℕ) → j < ms → MethodExact (get_or x.methods j noRawMethod))
-      → ((j : ℕ) → ms ≤ j → j < maxMethods → get_or x.methods j noRawMethod ≡ blankMethod) → TypeExact ms sh i x
-  unfolding TypeExact mkT from
+  pub ref-exact : x.rep ≡ 0 → x.own < 2 → ((j : ℕ) → j < ms → MethodExact (get_or x.methods j no_raw_method))
+      → ((j : ℕ) → ms ≤ j → j < max_methods → get_or x.methods j no_raw_method ≡ blank_method) → TypeExact ms sh i x
+  unfolding TypeExact mk_t from
   ref-exact r o e z =
-      let f : ℕ → Method = λ j. methodOf (get_or x.methods j noRawMethod) in
+      let f : ℕ → Method = λ j. method_of (get_or x.methods j no_raw_method) in
       rw (ref-rep x.rep r)
-      (mkT-eq x.cat (rep-back x.rep (omega arith)) (own_back x.own o) key
+      (mk_t-eq x.cat (rep-back x.rep (omega arith)) (own_back x.own o) key
       (stored-methods (from ms 0 f)
       (λ j p. ⊎_elim
-      (λ (q : j < ms). sym (ap methodRecord (from_first f ms j noMethod q) ∙ e j q))
-      (λ (q : ms ≤ j). z j q p ∙ sym (ap methodRecord (getD-from-out f noMethod ms 0 j q)))
+      (λ (q : j < ms). sym (ap method_record (from_first f ms j no_method q) ∙ e j q))
+      (λ (q : ms ≤ j). z j q p ∙ sym (ap method_record (get_or-from-out f no_method ms 0 j q)))
       (lt-or-ge j ms))))
 
   -- A number type, which has neither own nor methods.
-  pub number-exact : (x.rep ≡ 0 → ⊥) → x.rep < 3 → x.own ≡ 0 → ((j : ℕ) → j < maxMethods → get_or x.methods j noRawMethod ≡ blankMethod) → TypeExact ms sh i x
-  unfolding TypeExact mkT from
+  pub number-exact : (x.rep ≡ 0 → ⊥) → x.rep < 3 → x.own ≡ 0 → ((j : ℕ) → j < max_methods → get_or x.methods j no_raw_method ≡ blank_method) → TypeExact ms sh i x
+  unfolding TypeExact mk_t from
   number-exact n r o z =
       rw (number-rep x.rep n)
-      (mkT-eq x.cat (rep-back x.rep r) (sym o) key (stored-methods [] z))
+      (mk_t-eq x.cat (rep-back x.rep r) (sym o) key (stored-methods [] z))
 
 zeros : ℕ → List ℕ
 zeros n = replicate n 0

@@ -2,5 +2,5 @@
 use Rattle.std.specs.Prelude.{ℕ}
 
 -- at least 14 bytes for each pair of sheet types
-abbrev pub printedSize : ℕ
-printedSize = 32768
+abbrev pub printed_size : ℕ
+printed_size = 32768

@@ -3,8 +3,8 @@
 ghost use Rattle.std.specs.Prelude.{◌≡◌, ◌≤◌, length, take};
 ghost use Rattle.spec_sheet.specs.Sheet.{malformed};
 ghost use Rattle.text_write.specs.Fill.{Filled, Lined};
-ghost use Rattle.pairs_output.specs.Output.{resultLines, pairsOutput};
-ghost use Rattle.pairs_output.specs.Room.{printedSize};
+ghost use Rattle.pairs_output.specs.Output.{result_lines, pairs_output};
+ghost use Rattle.pairs_output.specs.Room.{printed_size};
 
 use base_numbers::least;
 use text_write::{put_number, write_number, write_word};
@@ -24,7 +24,7 @@ pub struct Printed {
 
 // `no=N at=OFFSET`
 fn refused_line(buf: &mut [u8], refusal: usize, at: usize) -> usize
-    ensures is { Lined buf.old buf.new (resultLines (malformed refusal at)) result }
+    ensures is { Lined buf.old buf.new (result_lines (malformed refusal at)) result }
     ensures few { result ≤ 73 }
 {
     let a = put_number(buf, b"no=", refusal);
@@ -34,7 +34,7 @@ fn refused_line(buf: &mut [u8], refusal: usize, at: usize) -> usize
 
 // The whole output, in front of a lent buffer.
 fn put_report(buf: &mut [u8], s: &[u8]) -> usize
-    ensures is { Filled buf.old buf.new (pairsOutput s.now) result }
+    ensures is { Filled buf.old buf.new (pairs_output s.now) result }
     ensures few { result ≤ 32256 }
 {
     if INPUT_BYTES < s.len() {
@@ -51,14 +51,14 @@ fn put_report(buf: &mut [u8], s: &[u8]) -> usize
 }
 
 fn blank() -> [u8; PRINTED_BYTES]
-    ensures { length result ≡ printedSize }
+    ensures { length result ≡ printed_size }
 {
     [0u8; PRINTED_BYTES]
 }
 
 // What the program prints for any input. `within` says what `&text[..length]` asks.
 pub fn report(s: &[u8]) -> Printed
-    ensures is { take result.length result.text ≡ pairsOutput s.now }
+    ensures is { take result.length result.text ≡ pairs_output s.now }
     ensures within { (result.length ≤ length result.text) × (result.length ≡ length (take result.length result.text)) }
 {
     let mut text = blank();

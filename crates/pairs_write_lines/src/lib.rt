@@ -1,8 +1,8 @@
 // The lines of a pair table (P17) into a lent buffer, each behind the one before it (F2).
 ghost use Rattle.std.specs.Prelude.{[], ◌∷◌, ◌≤◌, ◌<◌};
 ghost use Rattle.text_write.specs.Fill.{Filled, Lined};
-ghost use Rattle.pairs_write_lines.specs.Parts.{comparisonText, codeLine, row_lines, codeLines};
-ghost use Rattle.spec_model.specs.Table.{maxSheetTypes};
+ghost use Rattle.pairs_write_lines.specs.Parts.{comparison_text, code_line, row_lines, code_lines};
+ghost use Rattle.spec_model.specs.Table.{max_sheet_types};
 
 use base_numbers::{least, wide};
 use relation_compare::PAIR_BYTES;
@@ -11,7 +11,7 @@ use text_write::{put_decimal, put_number, write_number};
 
 // The comparison of a pair, and the end of the line.
 fn put_comparison(buf: &mut [u8], code: usize) -> usize
-    ensures is { Filled buf.old buf.new (comparisonText code) result }
+    ensures is { Filled buf.old buf.new (comparison_text code) result }
     ensures few { result ≤ 145 }
 {
     let a = put_number(buf, b" ", code % 2);
@@ -25,8 +25,8 @@ fn put_comparison(buf: &mut [u8], code: usize) -> usize
 
 // `T S a b c d`
 fn pair_line(buf: &mut [u8], t: usize, s: usize, code: usize) -> usize
-    requires { (t < maxSheetTypes) × (s < maxSheetTypes) }
-    ensures is { Lined buf.old buf.new (codeLine t s code ∷ []) result }
+    requires { (t < max_sheet_types) × (s < max_sheet_types) }
+    ensures is { Lined buf.old buf.new (code_line t s code ∷ []) result }
     ensures few { result ≤ 14 }
 {
     let a = put_decimal(buf, t);
@@ -38,7 +38,7 @@ fn pair_line(buf: &mut [u8], t: usize, s: usize, code: usize) -> usize
 
 // The pairs of T with each of the n types.
 fn row_lines(buf: &mut [u8], pairs: &[u8; PAIR_BYTES], t: usize, n: usize) -> usize
-    requires { (t < maxSheetTypes) × (n ≤ maxSheetTypes) }
+    requires { (t < max_sheet_types) × (n ≤ max_sheet_types) }
     ensures is { Lined buf.old buf.new (row_lines pairs.now t n) result }
     ensures few { result ≤ 672 }
 {
@@ -56,8 +56,8 @@ fn row_lines(buf: &mut [u8], pairs: &[u8; PAIR_BYTES], t: usize, n: usize) -> us
 
 // Every pair of the n types, T rising.
 pub fn pair_lines(buf: &mut [u8], pairs: &[u8; PAIR_BYTES], n: usize) -> usize
-    requires { n ≤ maxSheetTypes }
-    ensures is { Lined buf.old buf.new (codeLines pairs.now n n) result }
+    requires { n ≤ max_sheet_types }
+    ensures is { Lined buf.old buf.new (code_lines pairs.now n n) result }
     ensures few { result ≤ 32256 }
 {
     let mut at: usize = 0;

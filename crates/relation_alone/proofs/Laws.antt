@@ -12,72 +12,72 @@ use lib.Pow.{pow_mono}
 use lib.Seq.{get_or-set_same, get_or-set_other, length-take-le}
 use borrow.Author.Tests.{eq-eqb, ne_eqb, eqb-true, eqb-false, lt-ltb, le-ltb}
 use Rattle.spec_model.specs.Basics.{from}
-use Rattle.spec_model.specs.Table.{permit, size, maxSheetTypes}
-use Rattle.spec_model.specs.Relations.{Relation, bit, stateRule, argsRule, answerRule, methodRule}
-use Rattle.spec_model.specs.Check.{RawMethod, state_of, answer_of, methodOf}
-use Rattle.spec_model.specs.Records.{argumentSlots}
+use Rattle.spec_model.specs.Table.{permit, size, max_sheet_types}
+use Rattle.spec_model.specs.Relations.{Relation, bit, state_rule, args_rule, answer_rule, method_rule}
+use Rattle.spec_model.specs.Check.{RawMethod, state_of, answer_of, method_of}
+use Rattle.spec_model.specs.Records.{argument_slots}
 use Rattle.table_record.specs.declared.Counts.{Counts}
-use Rattle.table_record.specs.Store.{tableIn}
+use Rattle.table_record.specs.Store.{table_in}
 use Rattle.table_record.proofs.Lists.{lt-or-ge, same_or, length_from}
 use Rattle.table_record.proofs.Tables.{size_is}
 use Rattle.base_bits.specs.Word.{word_of}
 use Rattle.relation_states.proofs.Signatures.{fails, slots-are, args-differ, answer-none, answer-left, answer-right, answer-both, method-state, method-off, method-on}
-use Rattle.relation_slots.specs.Slots.{always, keepsAlone}
-use Rattle.relation_alone.specs.Alone.{rowAlone, RowsAlone}
+use Rattle.relation_slots.specs.Slots.{always, keeps_alone}
+use Rattle.relation_alone.specs.Alone.{row_alone, RowsAlone}
 
 -- ---- arguments
-pub count_same : (x y : ℕ) → x ≡ y → true ≡ eqb (min x argumentSlots) (min y argumentSlots)
-count_same x y e = rw e (sym (eq-eqb (min y argumentSlots) (min y argumentSlots) refl))
+pub count_same : (x y : ℕ) → x ≡ y → true ≡ eqb (min x argument_slots) (min y argument_slots)
+count_same x y e = rw e (sym (eq-eqb (min y argument_slots) (min y argument_slots) refl))
 
 -- the counts were read as i and j, which use u and v slots
-pub count-read : (x y i j u v : ℕ) → i ≡ x → j ≡ y → u ≡ min i argumentSlots → v ≡ min j argumentSlots → eqb u v ≡ eqb (min x argumentSlots) (min y argumentSlots)
+pub count-read : (x y i j u v : ℕ) → i ≡ x → j ≡ y → u ≡ min i argument_slots → v ≡ min j argument_slots → eqb u v ≡ eqb (min x argument_slots) (min y argument_slots)
 count-read x y i j u v ei ej eu ev = rw (eu, ev, ei, ej)
 
 -- lists that are as long keep it
-args-same : (xs ys : List ℕ) → length xs ≡ length ys → So (argsRule always xs ys)
+args-same : (xs ys : List ℕ) → length xs ≡ length ys → So (args_rule always xs ys)
 args-same [] [] e = refl
 args-same [] (y ∷ ys) e = let z : ⊥ = omega arith in absurd z
 args-same (x ∷ xs) [] e = let z : ⊥ = omega arith in absurd z
 args-same (x ∷ xs) (y ∷ ys) e = args-same xs ys (suc_inj e)
 
 -- xs and ys are the slots, i and j the counts
-module _ (xs ys : List ℕ) (lx : length xs ≡ argumentSlots) (ly : length ys ≡ argumentSlots) (i j : ℕ) where
+module _ (xs ys : List ℕ) (lx : length xs ≡ argument_slots) (ly : length ys ≡ argument_slots) (i j : ℕ) where
   abbrev u : ℕ
-  u = min i argumentSlots
+  u = min i argument_slots
 
   abbrev v : ℕ
-  v = min j argumentSlots
+  v = min j argument_slots
 
-  used : argsRule always (take i xs) (take j ys) ≡ argsRule always (take u xs) (take v ys)
+  used : args_rule always (take i xs) (take j ys) ≡ args_rule always (take u xs) (take v ys)
   used = rw (slots-are i u refl xs lx, slots-are j v refl ys ly)
 
-  pub arguments-differ : eqb u v ≡ false → false ≡ argsRule always (take i xs) (take j ys)
+  pub arguments-differ : eqb u v ≡ false → false ≡ args_rule always (take i xs) (take j ys)
   arguments-differ e = fails _ (λ w. args-differ xs ys always u v (omega arith) (omega arith) (eqb-false u v e) (sym used ∙ w))
 
-  pub arguments-same : eqb u v ≡ true → argsRule always (take i xs) (take j ys) ≡ true
+  pub arguments-same : eqb u v ≡ true → args_rule always (take i xs) (take j ys) ≡ true
   arguments-same e = used ∙ args-same (take u xs) (take v ys) (length-take-le u xs (omega arith) ∙ eqb-true u v e ∙ sym (length-take-le v ys (omega arith)))
 
 -- ---- answers
 module _ (x y : ℕ) where
-  pub answers-none : x ≡ 0 → eqb y 0 ≡ answerRule always (answer_of x) (answer_of y)
+  pub answers-none : x ≡ 0 → eqb y 0 ≡ answer_rule always (answer_of x) (answer_of y)
   answers-none e = ⊎_elim
       (λ (f : y ≡ 0). eq-eqb y 0 f ∙ sym (answer-none always x y e f))
       (λ (f : y ≡ 0 → ⊥). ne_eqb y 0 f ∙ fails _ (answer-left always x y e f))
       (same_or y 0)
 
-  pub answers-some : (x ≡ 0 → ⊥) → not (eqb y 0) ≡ answerRule always (answer_of x) (answer_of y)
+  pub answers-some : (x ≡ 0 → ⊥) → not (eqb y 0) ≡ answer_rule always (answer_of x) (answer_of y)
   answers-some e = ⊎_elim
       (λ (f : y ≡ 0). ap not (eq-eqb y 0 f) ∙ fails _ (answer-right always x y e f))
       (λ (f : y ≡ 0 → ⊥). ap not (ne_eqb y 0 f) ∙ sym (answer-both always x y e f))
       (same_or y 0)
 
 -- ---- A method, whose states were read as s and t. `fine` is what the state rule says of them, `on` whether both permit it.
-module _ (k : Relation) (x y : RawMethod) (lx : length x.args ≡ argumentSlots) (ly : length y.args ≡ argumentSlots) (s t : ℕ) (es : s ≡ x.state) (et : t ≡ y.state)
-    (fine : Bool) (ef : fine ≡ stateRule k (state_of s) (state_of t)) where
+module _ (k : Relation) (x y : RawMethod) (lx : length x.args ≡ argument_slots) (ly : length y.args ≡ argument_slots) (s t : ℕ) (es : s ≡ x.state) (et : t ≡ y.state)
+    (fine : Bool) (ef : fine ≡ state_rule k (state_of s) (state_of t)) where
   abbrev Q : Bool
-  Q = methodRule k always (methodOf x) (methodOf y)
+  Q = method_rule k always (method_of x) (method_of y)
 
-  states : fine ≡ stateRule k (state_of x.state) (state_of y.state)
+  states : fine ≡ state_rule k (state_of x.state) (state_of y.state)
   states = rw (← es, ← et) ef
 
   pub method-broken : fine ≡ false → false ≡ Q
@@ -91,20 +91,20 @@ module _ (k : Relation) (x y : RawMethod) (lx : length x.args ≡ argumentSlots)
     method-bare o = sym (method-off k x y (sym states ∙ e) always (sym permitted ∙ o))
 
     -- the counts were read as i and j
-    module _ (o : on ≡ true) (i j : ℕ) (ei : i ≡ x.count) (ej : j ≡ y.count) (same : Bool) (ec : same ≡ eqb (min i argumentSlots) (min j argumentSlots)) where
-      signature : Q ≡ (argsRule always (take x.count x.args) (take y.count y.args) && answerRule always (answer_of x.answer) (answer_of y.answer))
+    module _ (o : on ≡ true) (i j : ℕ) (ei : i ≡ x.count) (ej : j ≡ y.count) (same : Bool) (ec : same ≡ eqb (min i argument_slots) (min j argument_slots)) where
+      signature : Q ≡ (args_rule always (take x.count x.args) (take y.count y.args) && answer_rule always (answer_of x.answer) (answer_of y.answer))
       signature = method-on k x y (sym states ∙ e) always (sym permitted ∙ o)
 
-      counts : same ≡ eqb (min x.count argumentSlots) (min y.count argumentSlots)
+      counts : same ≡ eqb (min x.count argument_slots) (min y.count argument_slots)
       counts = rw (← ei, ← ej) ec
 
       pub method-counts : same ≡ false → false ≡ Q
       method-counts h = sym (signature ∙ rw (sym (arguments-differ x.args y.args lx ly x.count y.count (sym counts ∙ h))))
 
       -- and the answers as a and b
-      pub method-answers : same ≡ true → (a b : ℕ) → a ≡ x.answer → b ≡ y.answer → (r : Bool) → r ≡ answerRule always (answer_of a) (answer_of b) → r ≡ Q
+      pub method-answers : same ≡ true → (a b : ℕ) → a ≡ x.answer → b ≡ y.answer → (r : Bool) → r ≡ answer_rule always (answer_of a) (answer_of b) → r ≡ Q
       method-answers h a b ea eb r er =
-          let f : r ≡ answerRule always (answer_of x.answer) (answer_of y.answer) = rw (← ea, ← eb) er in
+          let f : r ≡ answer_rule always (answer_of x.answer) (answer_of y.answer) = rw (← ea, ← eb) er in
           f ∙ sym (signature ∙ rw (arguments-same x.args y.args lx ly x.count y.count (sym counts ∙ h)))
 
 -- ---- A row: the word of the bits from d on, of which there are n.
@@ -143,8 +143,8 @@ module _ (n : ℕ) (f : ℕ → Bool) where
     pub above-all : d ≤ 0 → r ≡ word_of (from n 0 f)
     above-all l = let z : d ≡ 0 = omega arith in let y : n - 0 ≡ n = omega arith in e ∙ rw (z, y)
 
-pub row_is : (k : Relation) (b l : List ℕ) (c : Counts) (a r : ℕ) → r ≡ word_of (from c.types 0 (keepsAlone k (tableIn b l c) a)) → r ≡ rowAlone k (tableIn b l c) a
-unfolding rowAlone
+pub row_is : (k : Relation) (b l : List ℕ) (c : Counts) (a r : ℕ) → r ≡ word_of (from c.types 0 (keeps_alone k (table_in b l c) a)) → r ≡ row_alone k (table_in b l c) a
+unfolding row_alone
 row_is k b l c a r e = e ∙ rw (size_is b l c)
 
 -- ---- The rows below a are f's, and the others are empty.
@@ -173,9 +173,9 @@ module _ (f : ℕ → ℕ) where
           (λ (p : a ≤ x). le-ltb x a p ∙ sym (le-ltb x (a + 1) (omega arith)))
           (lt-or-ge x a)
 
-pub rows_are : (k : Relation) (b l : List ℕ) (c : Counts) (a : ℕ) (rows : List ℕ) → a ≤ c.types → c.types ≤ a → length rows ≡ maxSheetTypes
-    → Filled (rowAlone k (tableIn b l c)) a rows → RowsAlone k (tableIn b l c) rows
+pub rows_are : (k : Relation) (b l : List ℕ) (c : Counts) (a : ℕ) (rows : List ℕ) → a ≤ c.types → c.types ≤ a → length rows ≡ max_sheet_types
+    → Filled (row_alone k (table_in b l c)) a rows → RowsAlone k (table_in b l c) rows
 rows_are k b l c a rows p q s h = record {
-  rowsSize = s;
-  are = λ x. let e : a ≡ size (tableIn b l c) = (let z : a ≡ c.types = omega arith in z) ∙ sym (size_is b l c) in h x ∙ rw e;
+  rows_size = s;
+  are = λ x. let e : a ≡ size (table_in b l c) = (let z : a ≡ c.types = omega arith in z) ∙ sym (size_is b l c) in h x ∙ rw e;
 }

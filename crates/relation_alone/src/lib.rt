@@ -2,17 +2,17 @@
 // (crate `relation_states`) and, where both permit it, as many arguments and an answer on both sides or on none (R4, R7). For every type T a word: bit S of it says
 // whether (T, S) keeps that much.
 ghost use Rattle.std.specs.Prelude.{◌≡◌, min, ◌≤◌, ◌<◌, eqb};
-ghost use Rattle.spec_model.specs.Table.{maxTypes, maxMethods, maxSheetTypes};
-ghost use Rattle.spec_model.specs.Relations.{answerRule, methodRule};
+ghost use Rattle.spec_model.specs.Table.{max_types, max_methods, max_sheet_types};
+ghost use Rattle.spec_model.specs.Relations.{answer_rule, method_rule};
 ghost use Rattle.spec_model.specs.Check.{answer_of};
-ghost use Rattle.spec_model.specs.Records.{argumentSlots};
-ghost use Rattle.table_record.specs.Store.{tableIn, methodIn};
+ghost use Rattle.spec_model.specs.Records.{argument_slots};
+ghost use Rattle.table_record.specs.Store.{table_in, method_in};
 ghost use Rattle.table_record.specs.Limits.{Checked};
-ghost use Rattle.relation_states.specs.Asked.{relationOf};
+ghost use Rattle.relation_states.specs.Asked.{relation_of};
 ghost use Rattle.relation_states.specs.Squares.{Says};
-ghost use Rattle.relation_rule.specs.Parts.{eachBelow};
-ghost use Rattle.relation_slots.specs.Slots.{always, keepsAlone};
-ghost use Rattle.relation_alone.specs.Alone.{rowAlone, RowsAlone};
+ghost use Rattle.relation_rule.specs.Parts.{each_below};
+ghost use Rattle.relation_slots.specs.Slots.{always, keeps_alone};
+ghost use Rattle.relation_alone.specs.Alone.{row_alone, RowsAlone};
 
 use base_bits::under;
 use base_numbers::{least, wide};
@@ -23,7 +23,7 @@ use table_record::{
 
 // R4: as many arguments. A count above the four slots uses all of them.
 fn same_count(x: u8, y: u8) -> bool
-    ensures { result ≡ eqb (min x argumentSlots) (min y argumentSlots) }
+    ensures { result ≡ eqb (min x argument_slots) (min y argument_slots) }
 {
     if x == y {
         return true;
@@ -33,7 +33,7 @@ fn same_count(x: u8, y: u8) -> bool
 
 // R4: an answer on both sides, or on none. An answer is stored as its number and 1.
 fn both_answer(x: u8, y: u8) -> bool
-    ensures { result ≡ answerRule always (answer_of x) (answer_of y) }
+    ensures { result ≡ answer_rule always (answer_of x) (answer_of y) }
 {
     if x == 0 {
         return y == 0;
@@ -50,8 +50,8 @@ fn method_alone(
     d: usize,
     j: usize,
 ) -> bool
-    requires { Says (relationOf k) square.now × (a < maxTypes) × (d < maxTypes) × (j < maxMethods) }
-    ensures { result ≡ methodRule (relationOf k) always (methodIn b.now a j) (methodIn b.now d j) }
+    requires { Says (relation_of k) square.now × (a < max_types) × (d < max_types) × (j < max_methods) }
+    ensures { result ≡ method_rule (relation_of k) always (method_in b.now a j) (method_in b.now d j) }
 {
     let x = method_state(b, a, j);
     let y = method_state(b, d, j);
@@ -79,8 +79,8 @@ fn methods_alone(
     a: usize,
     d: usize,
 ) -> bool
-    requires { Says (relationOf k) square.now × (a < maxTypes) × (d < maxTypes) × (methods ≤ maxMethods) }
-    ensures { result ≡ eachBelow methods (λ j. methodRule (relationOf k) always (methodIn b.now a j) (methodIn b.now d j)) }
+    requires { Says (relation_of k) square.now × (a < max_types) × (d < max_types) × (methods ≤ max_methods) }
+    ensures { result ≡ each_below methods (λ j. method_rule (relation_of k) always (method_in b.now a j) (method_in b.now d j)) }
 {
     let mut j: usize = 0;
     while j < methods {
@@ -103,8 +103,8 @@ fn pair_alone(
     a: usize,
     d: usize,
 ) -> bool
-    requires { Says (relationOf k) square.now × Checked l.now c × (a < c.types) × (d < c.types) }
-    ensures { result ≡ keepsAlone (relationOf k) (tableIn b.now l.now c) a d }
+    requires { Says (relation_of k) square.now × Checked l.now c × (a < c.types) × (d < c.types) }
+    ensures { result ≡ keeps_alone (relation_of k) (table_in b.now l.now c) a d }
 {
     let x = table_record::get_head(b, a);
     let y = table_record::get_head(b, d);
@@ -127,8 +127,8 @@ fn row_alone(
     square: &[[bool; 4]; 4],
     a: usize,
 ) -> u64
-    requires { Says (relationOf k) square.now × Checked l.now c × (c.types ≤ maxSheetTypes) × (a < c.types) }
-    ensures { result ≡ rowAlone (relationOf k) (tableIn b.now l.now c) a }
+    requires { Says (relation_of k) square.now × Checked l.now c × (c.types ≤ max_sheet_types) × (a < c.types) }
+    ensures { result ≡ row_alone (relation_of k) (table_in b.now l.now c) a }
 {
     let mut r: u64 = 0;
     let mut d = c.types;
@@ -147,8 +147,8 @@ pub fn rows_alone(
     c: Counts,
     k: Relation,
 ) -> [u64; Counts::SHEET_TYPES]
-    requires { Checked l.now c × (c.types ≤ maxSheetTypes) }
-    ensures { RowsAlone (relationOf k) (tableIn b.now l.now c) result }
+    requires { Checked l.now c × (c.types ≤ max_sheet_types) }
+    ensures { RowsAlone (relation_of k) (table_in b.now l.now c) result }
 {
     let square = relation_states::state_square(k);
     let mut rows = [0u64; Counts::SHEET_TYPES];

@@ -9,34 +9,34 @@ use lib.IntN.{ℤ}
 use lib.ListN.{length, get_or}
 use borrow.Author.Tests.{lt-ltb, le-ltb}
 use Rattle.spec_model.specs.Basics.{ok}
-use Rattle.spec_model.specs.Table.{Table, size, maxSheetTypes}
+use Rattle.spec_model.specs.Table.{Table, size, max_sheet_types}
 use Rattle.spec_model.specs.Relations.{compare}
-use Rattle.spec_model.specs.Check.{table_of, tableAccepted, compareHanded}
+use Rattle.spec_model.specs.Check.{table_of, table_accepted, compare_handed}
 use Rattle.table_record.specs.declared.Counts.{Counts}
-use Rattle.table_record.specs.Store.{rawTable, tableIn}
+use Rattle.table_record.specs.Store.{raw_table, table_in}
 use Rattle.table_record.proofs.Lists.{is-from, from_first}
 use Rattle.relation_compare.specs.declared.Comparison.{Comparison}
-use Rattle.relation_compare.specs.Comparing.{comparisonOf, comparisonAt}
-use Rattle.base_numbers.specs.Index.{indexOf}
+use Rattle.relation_compare.specs.Comparing.{comparison_of, comparison_at}
+use Rattle.base_numbers.specs.Index.{index_of}
 use Rattle.base_numbers.proofs.Laws.{index-unknown, index-known}
 use Rattle.relation_compare.specs.declared.Compared.{Compared}
 use Rattle.relation_compare.specs.declared.Compared.TheVariants.{Unfit, Unknown, Comparison as Given}
 use Rattle.relation_compare.specs.declared.Pairs.{Pairs}
-use Rattle.relation_compare.specs.Compared.{comparedOf, pairsGiven}
-use Rattle.relation_compare.specs.Pairs.{pairCode, pairEntry, pairTable, noPairs, pairsHanded, pairsSize}
+use Rattle.relation_compare.specs.Compared.{compared_of, pairs_given}
+use Rattle.relation_compare.specs.Pairs.{pair_code, pair_entry, pair_table, no_pairs, pairs_handed, pairs_size}
 
 -- Compare, where x and y are the indices of the numbers handed in.
-module _ (T : Table) (a b : ℤ) (x : ℕ) (ex : x ≡ indexOf a (size T)) where
-  pub compare-left : size T ≤ x → comparedOf Unknown ≡ compare T a b
+module _ (T : Table) (a b : ℤ) (x : ℕ) (ex : x ≡ index_of a (size T)) where
+  pub compare-left : size T ≤ x → compared_of Unknown ≡ compare T a b
   unfolding compare
   compare-left l = rw (index-unknown a (size T) x ex l)
 
-  module _ (p : x < size T) (y : ℕ) (ey : y ≡ indexOf b (size T)) where
-    pub compare-right : size T ≤ y → comparedOf Unknown ≡ compare T a b
+  module _ (p : x < size T) (y : ℕ) (ey : y ≡ index_of b (size T)) where
+    pub compare-right : size T ≤ y → compared_of Unknown ≡ compare T a b
     unfolding compare
     compare-right l = rw ((index-known a (size T) x ex p).0, index-unknown b (size T) y ey l)
 
-    pub compare-all : y < size T → (r : Comparison) → comparisonOf r ≡ comparisonAt T x y → comparedOf (Given r) ≡ compare T a b
+    pub compare-all : y < size T → (r : Comparison) → comparison_of r ≡ comparison_at T x y → compared_of (Given r) ≡ compare T a b
     unfolding compare
     compare-all q r h =
         let k = index-known a (size T) x ex p in
@@ -45,51 +45,51 @@ module _ (T : Table) (a b : ℤ) (x : ℕ) (ex : x ≡ indexOf a (size T)) where
 
 -- An entry of the pair table.
 module _ (b l : List ℕ) (c : Counts) (t s : ℕ) where
-  pub entry-left : c.sheet ≤ t → 0 ≡ pairEntry (tableIn b l c) t s
-  unfolding tableIn table_of
+  pub entry-left : c.sheet ≤ t → 0 ≡ pair_entry (table_in b l c) t s
+  unfolding table_in table_of
   entry-left h = rw (le-ltb t c.sheet h)
 
-  pub entry-right : t < c.sheet → c.sheet ≤ s → 0 ≡ pairEntry (tableIn b l c) t s
-  unfolding tableIn table_of
+  pub entry-right : t < c.sheet → c.sheet ≤ s → 0 ≡ pair_entry (table_in b l c) t s
+  unfolding table_in table_of
   entry-right p h = rw (lt-ltb t c.sheet p, le-ltb s c.sheet h)
 
-  both-sheet : t < c.sheet → s < c.sheet → (ltb t (tableIn b l c).sheet && ltb s (tableIn b l c).sheet) ≡ true
-  unfolding tableIn table_of
+  both-sheet : t < c.sheet → s < c.sheet → (ltb t (table_in b l c).sheet && ltb s (table_in b l c).sheet) ≡ true
+  unfolding table_in table_of
   both-sheet p q = rw (lt-ltb t c.sheet p, lt-ltb s c.sheet q)
 
-  pub entry-all : (a : Comparison) (r : ℕ) → t < c.sheet → s < c.sheet → comparisonOf a ≡ comparisonAt (tableIn b l c) t s → r ≡ pairCode (comparisonOf a) → r ≡ pairEntry (tableIn b l c) t s
-  entry-all a r p q h e = e ∙ ap pairCode h ∙ rw (both-sheet p q)
+  pub entry-all : (a : Comparison) (r : ℕ) → t < c.sheet → s < c.sheet → comparison_of a ≡ comparison_at (table_in b l c) t s → r ≡ pair_code (comparison_of a) → r ≡ pair_entry (table_in b l c) t s
+  entry-all a r p q h e = e ∙ ap pair_code h ∙ rw (both-sheet p q)
 
 -- The table, entry by entry.
-pub pairs-all : (T : Table) (out : List ℕ) → length out ≡ pairsSize → ((k : ℕ) → k < pairsSize → get_or out k 0 ≡ pairEntry T (k / maxSheetTypes) (k % maxSheetTypes)) → out ≡ pairTable T
-unfolding pairTable
-pairs-all T out e h = sym (is-from (λ p. pairEntry T (p / maxSheetTypes) (p % maxSheetTypes)) pairsSize 0 out e h)
+pub pairs-all : (T : Table) (out : List ℕ) → length out ≡ pairs_size → ((k : ℕ) → k < pairs_size → get_or out k 0 ≡ pair_entry T (k / max_sheet_types) (k % max_sheet_types)) → out ≡ pair_table T
+unfolding pair_table
+pairs-all T out e h = sym (is-from (λ p. pair_entry T (p / max_sheet_types) (p % max_sheet_types)) pairs_size 0 out e h)
 
 -- Where the pair (T, S) stands.
-pub pair-at : (T : Table) (t s : ℕ) → t < maxSheetTypes → s < maxSheetTypes → get_or (pairTable T) (t * maxSheetTypes + s) 0 ≡ pairEntry T t s
-unfolding pairTable
+pub pair-at : (T : Table) (t s : ℕ) → t < max_sheet_types → s < max_sheet_types → get_or (pair_table T) (t * max_sheet_types + s) 0 ≡ pair_entry T t s
+unfolding pair_table
 pair-at T t s p q =
-    let d : (t * maxSheetTypes + s) / maxSheetTypes ≡ t = omega arith in
-    let m : (t * maxSheetTypes + s) % maxSheetTypes ≡ s = omega arith in
-    from_first (λ p. pairEntry T (p / maxSheetTypes) (p % maxSheetTypes)) pairsSize (t * maxSheetTypes + s) 0 (omega arith) ∙ rw (d, m)
+    let d : (t * max_sheet_types + s) / max_sheet_types ≡ t = omega arith in
+    let m : (t * max_sheet_types + s) % max_sheet_types ≡ s = omega arith in
+    from_first (λ p. pair_entry T (p / max_sheet_types) (p % max_sheet_types)) pairs_size (t * max_sheet_types + s) 0 (omega arith) ∙ rw (d, m)
 
 -- Compare on a table handed in: by whether it is accepted.
 module _ (b l : List ℕ) (c : Counts) (t s : ℤ) where
-  pub compare-fit : (r : Compared) → tableAccepted (rawTable b l c) ≡ true → comparedOf r ≡ compare (tableIn b l c) t s → comparedOf r ≡ compareHanded (rawTable b l c) t s
-  unfolding compareHanded tableIn
+  pub compare-fit : (r : Compared) → table_accepted (raw_table b l c) ≡ true → compared_of r ≡ compare (table_in b l c) t s → compared_of r ≡ compare_handed (raw_table b l c) t s
+  unfolding compare_handed table_in
   compare-fit r e h = h ∙ rw e
 
-  pub compare-unfit : tableAccepted (rawTable b l c) ≡ false → comparedOf Unfit ≡ compareHanded (rawTable b l c) t s
-  unfolding compareHanded
+  pub compare-unfit : table_accepted (raw_table b l c) ≡ false → compared_of Unfit ≡ compare_handed (raw_table b l c) t s
+  unfolding compare_handed
   compare-unfit e = rw e
 
 -- The pair table of a table handed in.
 module _ (b l : List ℕ) (c : Counts) (entries : List ℕ) where
-  pub pairs-fit : tableAccepted (rawTable b l c) ≡ true → entries ≡ pairTable (tableIn b l c)
-      → ◌≡◌ {A = Pairs} (record { fits = true; entries = entries }) (pairsGiven (pairsHanded (rawTable b l c)))
-  unfolding pairsHanded tableIn
+  pub pairs-fit : table_accepted (raw_table b l c) ≡ true → entries ≡ pair_table (table_in b l c)
+      → ◌≡◌ {A = Pairs} (record { fits = true; entries = entries }) (pairs_given (pairs_handed (raw_table b l c)))
+  unfolding pairs_handed table_in
   pairs-fit e h = rw (e, h)
 
-  pub pairs-unfit : tableAccepted (rawTable b l c) ≡ false → entries ≡ noPairs → ◌≡◌ {A = Pairs} (record { fits = false; entries = entries }) (pairsGiven (pairsHanded (rawTable b l c)))
-  unfolding pairsHanded
+  pub pairs-unfit : table_accepted (raw_table b l c) ≡ false → entries ≡ no_pairs → ◌≡◌ {A = Pairs} (record { fits = false; entries = entries }) (pairs_given (pairs_handed (raw_table b l c)))
+  unfolding pairs_handed
   pairs-unfit e h = rw (e, h)

@@ -4,8 +4,8 @@ use Rattle.spec_model.specs.Table.{Table}
 use Rattle.spec_model.specs.Relations as Model
 use Rattle.relation_compare.specs.declared.Comparison.{Comparison}
 
-abbrev pub comparisonAt : Table → ℕ → ℕ → Model.Comparison
-comparisonAt x t s = record {
+abbrev pub comparison_at : Table → ℕ → ℕ → Model.Comparison
+comparison_at x t s = record {
   subtype = Model.related Model.subtype x t s;
   strict = Model.related Model.strict x t s;
   loose = Model.related Model.loose x t s;
@@ -13,5 +13,5 @@ comparisonAt x t s = record {
 }
 
 -- the code's record as the model's
-abbrev pub comparisonOf : Comparison → Model.Comparison
-comparisonOf a = record { subtype = a.subtype; strict = a.strict; loose = a.loose; free = a.free }
+abbrev pub comparison_of : Comparison → Model.Comparison
+comparison_of a = record { subtype = a.subtype; strict = a.strict; loose = a.loose; free = a.free }

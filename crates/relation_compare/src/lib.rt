@@ -2,12 +2,12 @@
 // comparison for every pair of its types.
 ghost use Rattle.std.specs.Prelude.{◌≡◌, ◌+◌, ◌*◌, ◌≤◌};
 ghost use Rattle.spec_model.specs.Relations.{compare};
-ghost use Rattle.spec_model.specs.Check.{compareHanded};
-ghost use Rattle.table_record.specs.Store.{rawTable, tableIn};
+ghost use Rattle.spec_model.specs.Check.{compare_handed};
+ghost use Rattle.table_record.specs.Store.{raw_table, table_in};
 ghost use Rattle.table_record.specs.Limits.{Checked};
-ghost use Rattle.relation_compare.specs.Comparing.{comparisonOf, comparisonAt};
-ghost use Rattle.relation_compare.specs.Compared.{comparedOf, pairsGiven};
-ghost use Rattle.relation_compare.specs.Pairs.{pairCode, pairEntry, pairTable, noPairs, pairsHanded};
+ghost use Rattle.relation_compare.specs.Comparing.{comparison_of, comparison_at};
+ghost use Rattle.relation_compare.specs.Compared.{compared_of, pairs_given};
+ghost use Rattle.relation_compare.specs.Pairs.{pair_code, pair_entry, pair_table, no_pairs, pairs_handed};
 
 use base_numbers::bit_of;
 use relation_search::related_at;
@@ -34,7 +34,7 @@ fn comparison_at(
     s: usize,
 ) -> Comparison
     requires { Checked l.now c }
-    ensures { comparisonOf result ≡ comparisonAt (tableIn b.now l.now c) t s }
+    ensures { comparison_of result ≡ comparison_at (table_in b.now l.now c) t s }
 {
     let subtype = related_at(b, l, c, Relation::Subtype, t, s);
     let strict = related_at(b, l, c, Relation::Strict, t, s);
@@ -65,7 +65,7 @@ fn compare_checked(
     s: i64,
 ) -> Compared
     requires { Checked l.now c }
-    ensures { comparedOf result ≡ compare (tableIn b.now l.now c) t s }
+    ensures { compared_of result ≡ compare (table_in b.now l.now c) t s }
 {
     let x = base_numbers::index_of(t, c.types);
     if c.types <= x {
@@ -87,7 +87,7 @@ pub fn compare_types(
     t: i64,
     s: i64,
 ) -> Compared
-    ensures { comparedOf result ≡ compareHanded (rawTable b.now l.now c) t s }
+    ensures { compared_of result ≡ compare_handed (raw_table b.now l.now c) t s }
 {
     if table_check::table_fits(b, l, c) {
         return compare_checked(b, l, c, t, s);
@@ -97,7 +97,7 @@ pub fn compare_types(
 
 // A comparison in one byte.
 pub fn pair_code(a: Comparison) -> u8
-    ensures { result ≡ pairCode (comparisonOf a) }
+    ensures { result ≡ pair_code (comparison_of a) }
 {
     let w = bit_of(a.subtype);
     let x = bit_of(a.strict);
@@ -109,7 +109,7 @@ pub fn pair_code(a: Comparison) -> u8
 // The comparison at a pair of sheet types; 0 where one is no sheet type.
 fn pair_entry(b: &[u8; TYPE_BYTES], l: &[u8; LINK_BYTES], c: Counts, t: usize, s: usize) -> u8
     requires { Checked l.now c }
-    ensures { result ≡ pairEntry (tableIn b.now l.now c) t s }
+    ensures { result ≡ pair_entry (table_in b.now l.now c) t s }
 {
     if c.sheet <= t {
         return 0;
@@ -124,7 +124,7 @@ fn pair_entry(b: &[u8; TYPE_BYTES], l: &[u8; LINK_BYTES], c: Counts, t: usize, s
 // The comparison at every pair of sheet types, that of (T, S) at T * 48 + S (B24).
 pub fn pair_table(b: &[u8; TYPE_BYTES], l: &[u8; LINK_BYTES], c: Counts) -> [u8; PAIR_BYTES]
     requires { Checked l.now c }
-    ensures { result ≡ pairTable (tableIn b.now l.now c) }
+    ensures { result ≡ pair_table (table_in b.now l.now c) }
 {
     let mut out = [0u8; PAIR_BYTES];
     let mut p: usize = 0;
@@ -144,14 +144,14 @@ pub struct Pairs {
 }
 
 fn no_pairs() -> [u8; PAIR_BYTES]
-    ensures { result ≡ noPairs }
+    ensures { result ≡ no_pairs }
 {
     [0u8; PAIR_BYTES]
 }
 
 // The pair table, on any table handed in: 2 before all else.
 pub fn pairs_of(b: &[u8; TYPE_BYTES], l: &[u8; LINK_BYTES], c: Counts) -> Pairs
-    ensures { result ≡ pairsGiven (pairsHanded (rawTable b.now l.now c)) }
+    ensures { result ≡ pairs_given (pairs_handed (raw_table b.now l.now c)) }
 {
     if table_check::table_fits(b, l, c) {
         let entries = pair_table(b, l, c);

@@ -12,9 +12,9 @@ use lib.ListN.{length, get_or, set, length-map, get_or-map}
 use lib.Seq.{map-set_same}
 use Rattle.table_record.proofs.Lists.{lt-or-ge}
 use Rattle.relation_found.specs.declared.Step.TheVariants.{Tail}
-use Rattle.relation_found.specs.Found.{marksIn, queueIn, Added, ListedIn, MetIn}
+use Rattle.relation_found.specs.Found.{marks_in, queue_in, Added, ListedIn, MetIn}
 use Rattle.relation_found.proofs.Pairs.{in_rows, pair-new}
-use Rattle.spec_model.specs.Table.{maxTypes}
+use Rattle.spec_model.specs.Table.{max_types}
 
 map-set : {A B : Type 0} (f : A → B) (l : List A) (i : ℕ) (y : A) → map f (set l i y) ≡ set (map f l) i (f y)
 map-set f [] i y = refl
@@ -22,20 +22,20 @@ map-set f (x ∷ xs) zero y = refl
 map-set {B = B} f (x ∷ xs) (suc i) y = ap (λ (zs : List B). f x ∷ zs) (map-set f xs i y)
 
 -- ---- an entry, as it is read
-pub mark-at : (b : List ℕ) (i : ℕ) (r x : Bool) → r ≡ leb 32768 (get_or b i 0) → r ≡ x → get_or (marksIn b) i false ≡ x
-unfolding marksIn
+pub mark-at : (b : List ℕ) (i : ℕ) (r x : Bool) → r ≡ leb 32768 (get_or b i 0) → r ≡ x → get_or (marks_in b) i false ≡ x
+unfolding marks_in
 mark-at b i r x e f = get_or-map (λ (v : ℕ). leb 32768 v) b i 0 ∙ sym e ∙ f
 
-pub queue-at : (b : List ℕ) (i v : ℕ) → v ≡ get_or b i 0 → get_or (queueIn b) i 0 ≡ v % 32768
-unfolding queueIn
+pub queue-at : (b : List ℕ) (i v : ℕ) → v ≡ get_or b i 0 → get_or (queue_in b) i 0 ≡ v % 32768
+unfolding queue_in
 queue-at b i v e = get_or-map (λ (v : ℕ). v % 32768) b i 0 ∙ ap (λ (v : ℕ). v % 32768) (sym e)
 
-pub buffer-length : (b : List ℕ) → length (marksIn b) ≡ length b
-unfolding marksIn
+pub buffer-length : (b : List ℕ) → length (marks_in b) ≡ length b
+unfolding marks_in
 buffer-length b = length-map b (λ (v : ℕ). leb 32768 v)
 
 -- ---- an entry below its rows
-pub entry_in : (n : ℕ) (b : List ℕ) (t x y : ℕ) → ListedIn n b t → bit_or x y < length b / maxTypes → (x < maxTypes) × (y < maxTypes) × (x * maxTypes + y < length b)
+pub entry_in : (n : ℕ) (b : List ℕ) (t x y : ℕ) → ListedIn n b t → bit_or x y < length b / max_types → (x < max_types) × (y < max_types) × (x * max_types + y < length b)
 entry_in n b t x y h k = let e = buffer-length b in in_rows x y (length b) (omega (arith, h.few)) k
 
 -- ---- pair p is added as number t: the top bit of entry p, then the rest of entry t
@@ -55,15 +55,15 @@ module _ (b : List ℕ) (t p : ℕ) (l : p < 32768) where
     abbrev placed : ℕ
     placed = w / 32768 * 32768 + p
 
-    added-marks : marksIn (set marked t placed) ≡ set (marksIn b) p true
-    unfolding marksIn
+    added-marks : marks_in (set marked t placed) ≡ set (marks_in b) p true
+    unfolding marks_in
     added-marks =
         map-set_same (λ (v : ℕ). leb 32768 v) marked t placed 0 (top_kept w p l ∙ ap (λ (v : ℕ). leb 32768 v) e)
         ∙ map-set (λ (v : ℕ). leb 32768 v) b p (get_or b p 0 % 32768 + 32768)
         ∙ ap (λ (v : Bool). set (map (λ (v : ℕ). leb 32768 v) b) p v) (le-leb 32768 (get_or b p 0 % 32768 + 32768) (omega arith))
 
-    added-queue : queueIn (set marked t placed) ≡ set (queueIn b) t p
-    unfolding queueIn
+    added-queue : queue_in (set marked t placed) ≡ set (queue_in b) t p
+    unfolding queue_in
     added-queue =
         let kept : (get_or b p 0 % 32768 + 32768) % 32768 ≡ get_or b p 0 % 32768 = omega arith in
         let new : placed % 32768 ≡ p = omega arith in
@@ -74,6 +74,6 @@ module _ (b : List ℕ) (t p : ℕ) (l : p < 32768) where
     pub added : Added b t p (set marked t placed)
     added = (added-marks, added-queue)
 
-pub pair-added : (n : ℕ) (b : List ℕ) (t x y : ℕ) → ListedIn n b t → x < n → y < n → get_or (marksIn b) (x * maxTypes + y) false ≡ false
-    → (b' : List ℕ) (r : ℕ) → (r ≡ t + 1) × Added b t (x * maxTypes + y) b' → MetIn n (λ M. M x y) b t b' (Tail r)
-pair-added n b t x y h p q e b' r k = rw (k.0, k.1.0, k.1.1) (pair-new n (marksIn b) (queueIn b) t x y h p q e)
+pub pair-added : (n : ℕ) (b : List ℕ) (t x y : ℕ) → ListedIn n b t → x < n → y < n → get_or (marks_in b) (x * max_types + y) false ≡ false
+    → (b' : List ℕ) (r : ℕ) → (r ≡ t + 1) × Added b t (x * max_types + y) b' → MetIn n (λ M. M x y) b t b' (Tail r)
+pair-added n b t x y h p q e b' r k = rw (k.0, k.1.0, k.1.1) (pair-new n (marks_in b) (queue_in b) t x y h p q e)

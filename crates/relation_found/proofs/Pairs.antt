@@ -13,38 +13,38 @@ use lib.Seq.{get_or-set_same, get_or-set_other}
 use Rattle.spec_model.proofs.Tests.{ltb-so, so-ltb}
 use Rattle.spec_model.proofs.Rules.{never, both, first, second}
 use Rattle.spec_model.specs.Relations.{bit, yeses}
-use Rattle.spec_model.specs.Table.{maxTypes}
+use Rattle.spec_model.specs.Table.{max_types}
 use Rattle.table_record.proofs.Lists.{same_or}
 use Rattle.relation_found.specs.declared.Step.{Step}
 use Rattle.relation_found.specs.declared.Step.TheVariants.{Broken, Tail}
-use Rattle.relation_found.specs.Found.{found, Within, Queued, Pair, Listed, Grew, Broke, Met, maxPairs}
+use Rattle.relation_found.specs.Found.{found, Within, Queued, Pair, Listed, Grew, Broke, Met, max_pairs}
 
 pub clash : {A : Type 0} → {b : Bool} → b ≡ true → b ≡ false → A
 clash p q = never (sym q ∙ p)
 
 -- ---- pairs as numbers
-pub found-says : (n : ℕ) (s : List Bool) (x y : ℕ) → So (found n s x y) → (x < n) × (y < n) × So (get_or s (x * maxTypes + y) false)
+pub found-says : (n : ℕ) (s : List Bool) (x y : ℕ) → So (found n s x y) → (x < n) × (y < n) × So (get_or s (x * max_types + y) false)
 found-says n s x y h =
     let g = second (ltb x n) _ h in
     (ltb-so (first (ltb x n) _ h), ltb-so (first (ltb y n) _ g), second (ltb y n) _ g)
 
-pub found-test : (n : ℕ) (s : List Bool) (x y : ℕ) → x < n → y < n → So (get_or s (x * maxTypes + y) false) → So (found n s x y)
+pub found-test : (n : ℕ) (s : List Bool) (x y : ℕ) → x < n → y < n → So (get_or s (x * max_types + y) false) → So (found n s x y)
 found-test n s x y p q h = both (so-ltb p) (both (so-ltb q) h)
 
-pub pair-as : (n : ℕ) (s : List Bool) (p : ℕ) → Pair n s p → So (found n s (p / maxTypes) (p % maxTypes))
+pub pair-as : (n : ℕ) (s : List Bool) (p : ℕ) → Pair n s p → So (found n s (p / max_types) (p % max_types))
 pair-as n s p h =
-    let e : p / maxTypes * maxTypes + p % maxTypes ≡ p = omega arith in
-    found-test n s (p / maxTypes) (p % maxTypes) h.low h.high (rw e h.known)
+    let e : p / max_types * max_types + p % max_types ≡ p = omega arith in
+    found-test n s (p / max_types) (p % max_types) h.low h.high (rw e h.known)
 
 -- neither of two numbers is above x | y; so where that is below the rows of the array, the pair's number is one of its entries
-pub in_rows : (x y m : ℕ) → m ≤ maxPairs → bit_or x y < m / maxTypes → (x < maxTypes) × (y < maxTypes) × (x * maxTypes + y < m)
+pub in_rows : (x y m : ℕ) → m ≤ max_pairs → bit_or x y < m / max_types → (x < max_types) × (y < max_types) × (x * max_types + y < m)
 in_rows x y m l k =
     let sum : bit_or x y + bit_and x y ≡ x + y = or_add_and x y in
     let left : bit_and x y ≤ x = and_le_l x y in
     let right : bit_and x y ≤ y = and_le_r x y in
     (omega arith, omega arith, omega arith)
 
-pair_of : (n : ℕ) (s : List Bool) (x y : ℕ) → n ≤ maxTypes → x < n → y < n → So (get_or s (x * maxTypes + y) false) → Pair n s (x * maxTypes + y)
+pair_of : (n : ℕ) (s : List Bool) (x y : ℕ) → n ≤ max_types → x < n → y < n → So (get_or s (x * max_types + y) false) → Pair n s (x * max_types + y)
 pair_of n s x y l p q h = record { low = omega arith; high = omega arith; known = h }
 
 -- ---- counting
@@ -63,7 +63,7 @@ yeses-set (b ∷ s) (suc p) l h = let e : yeses (set s p true) ≡ suc (yeses s)
 pub counted : (n : ℕ) (s : List Bool) (l : List ℕ) (t : ℕ) → Listed n s l t → t ≤ length s
 counted n s l t h = let e = yeses-le s in omega (arith, h.tally)
 
-pub fits : (n : ℕ) (s : List Bool) (l : List ℕ) (t : ℕ) → Listed n s l t → t ≤ maxPairs
+pub fits : (n : ℕ) (s : List Bool) (l : List ℕ) (t : ℕ) → Listed n s l t → t ≤ max_pairs
 fits n s l t h = let e = counted n s l t h in omega (arith, h.few)
 
 pub room : (n : ℕ) (s : List Bool) (l : List ℕ) (t p : ℕ) → Listed n s l t → p < length s → get_or s p false ≡ false → t < length s
@@ -78,13 +78,13 @@ pub stay : (n : ℕ) (W : (ℕ → ℕ → Bool) → Bool) (s : List Bool) (l : 
 unfolding Within
 stay n W s l t h w = record { listed = h; more = λ x y k. k; kept = λ i k. refl; longer = omega arith; has = w; only = λ M k i. i }
 
-pub pair-known : (n : ℕ) (s : List Bool) (l : List ℕ) (t x y : ℕ) → Listed n s l t → x < n → y < n → So (get_or s (x * maxTypes + y) false) → Grew n (λ M. M x y) s l t s l t
+pub pair-known : (n : ℕ) (s : List Bool) (l : List ℕ) (t x y : ℕ) → Listed n s l t → x < n → y < n → So (get_or s (x * max_types + y) false) → Grew n (λ M. M x y) s l t s l t
 pair-known n s l t x y h p q k = stay n (λ M. M x y) s l t h (found-test n s x y p q k)
 
 -- what is found is in the table, so that x and y need no test
-pub pair-seen : (n : ℕ) (s : List Bool) (l : List ℕ) (t x y : ℕ) → Listed n s l t → y < maxTypes → So (get_or s (x * maxTypes + y) false) → Grew n (λ M. M x y) s l t s l t
+pub pair-seen : (n : ℕ) (s : List Bool) (l : List ℕ) (t x y : ℕ) → Listed n s l t → y < max_types → So (get_or s (x * max_types + y) false) → Grew n (λ M. M x y) s l t s l t
 pair-seen n s l t x y h q k =
-    let i = h.inside (x * maxTypes + y) k in
+    let i = h.inside (x * max_types + y) k in
     let a : x < n = omega (arith, i.0) in
     let b : y < n = omega (arith, i.1) in
     pair-known n s l t x y h a b k
@@ -103,74 +103,74 @@ set-less s p q h =
     (λ (e : q ≡ p → ⊥). inr (sym (get_or-set_other s p q true false e) ∙ h))
     (same_or q p)
 
-module _ (n : ℕ) (s : List Bool) (l : List ℕ) (t x y : ℕ) (h : Listed n s l t) (p : x < n) (q : y < n) (e : get_or s (x * maxTypes + y) false ≡ false) where
-  at_slot : x * maxTypes + y < length s
+module _ (n : ℕ) (s : List Bool) (l : List ℕ) (t x y : ℕ) (h : Listed n s l t) (p : x < n) (q : y < n) (e : get_or s (x * max_types + y) false ≡ false) where
+  at_slot : x * max_types + y < length s
   at_slot = omega (arith, h.slots, h.small)
 
   at_room : t < length l
-  at_room = let a : t < length s = room n s l t (x * maxTypes + y) h at_slot e in omega (arith, h.room)
+  at_room = let a : t < length s = room n s l t (x * max_types + y) h at_slot e in omega (arith, h.room)
 
-  new-back : (i : ℕ) → i < t + 1 → Pair n (set s (x * maxTypes + y) true) (get_or (set l t (x * maxTypes + y)) i 0)
+  new-back : (i : ℕ) → i < t + 1 → Pair n (set s (x * max_types + y) true) (get_or (set l t (x * max_types + y)) i 0)
   new-back i k =
       ⊎_elim
-      (λ (a : i ≡ t). let b : get_or (set l t (x * maxTypes + y)) i 0 ≡ x * maxTypes + y = ap (λ (m : ℕ). get_or (set l t (x * maxTypes + y)) m 0) a ∙ get_or-set_same l t (x * maxTypes + y) 0 at_room in
-      rw b (pair_of n (set s (x * maxTypes + y) true) x y h.small p q (get_or-set_same s (x * maxTypes + y) true false at_slot)))
-      (λ (a : i ≡ t → ⊥). let b : get_or (set l t (x * maxTypes + y)) i 0 ≡ get_or l i 0 = get_or-set_other l t i (x * maxTypes + y) 0 a in
+      (λ (a : i ≡ t). let b : get_or (set l t (x * max_types + y)) i 0 ≡ x * max_types + y = ap (λ (m : ℕ). get_or (set l t (x * max_types + y)) m 0) a ∙ get_or-set_same l t (x * max_types + y) 0 at_room in
+      rw b (pair_of n (set s (x * max_types + y) true) x y h.small p q (get_or-set_same s (x * max_types + y) true false at_slot)))
+      (λ (a : i ≡ t → ⊥). let b : get_or (set l t (x * max_types + y)) i 0 ≡ get_or l i 0 = get_or-set_other l t i (x * max_types + y) 0 a in
       let o = h.back i (omega arith) in
-      rw b (record { low = o.low; high = o.high; known = set_more s (x * maxTypes + y) (get_or l i 0) o.known at_slot }))
+      rw b (record { low = o.low; high = o.high; known = set_more s (x * max_types + y) (get_or l i 0) o.known at_slot }))
       (same_or i t)
 
-  new-forth : (u v : ℕ) → So (found n (set s (x * maxTypes + y) true) u v) → Queued (set l t (x * maxTypes + y)) (t + 1) (u * maxTypes + v)
+  new-forth : (u v : ℕ) → So (found n (set s (x * max_types + y) true) u v) → Queued (set l t (x * max_types + y)) (t + 1) (u * max_types + v)
   new-forth u v k =
-      let g = found-says n (set s (x * maxTypes + y) true) u v k in
+      let g = found-says n (set s (x * max_types + y) true) u v k in
       ⊎_elim
-      (λ (a : u * maxTypes + v ≡ x * maxTypes + y). let o : Queued (set l t (x * maxTypes + y)) (t + 1) (u * maxTypes + v) = record
-      { place = t; below = omega arith; there = get_or-set_same l t (x * maxTypes + y) 0 at_room ∙ sym a } in o)
-      (λ (a : So (get_or s (u * maxTypes + v) false)). let w = h.forth u v (found-test n s u v g.0 g.1 a) in
-      let o : Queued (set l t (x * maxTypes + y)) (t + 1) (u * maxTypes + v) = record {
+      (λ (a : u * max_types + v ≡ x * max_types + y). let o : Queued (set l t (x * max_types + y)) (t + 1) (u * max_types + v) = record
+      { place = t; below = omega arith; there = get_or-set_same l t (x * max_types + y) 0 at_room ∙ sym a } in o)
+      (λ (a : So (get_or s (u * max_types + v) false)). let w = h.forth u v (found-test n s u v g.0 g.1 a) in
+      let o : Queued (set l t (x * max_types + y)) (t + 1) (u * max_types + v) = record {
         place = w.place;
         below = omega (arith, w.below);
-        there = get_or-set_other l t w.place (x * maxTypes + y) 0
+        there = get_or-set_other l t w.place (x * max_types + y) 0
             (λ z. let f = w.below in let d : w.place ≡ t = z in omega arith) ∙ w.there;
       } in o)
-      (set-less s (x * maxTypes + y) (u * maxTypes + v) g.2)
+      (set-less s (x * max_types + y) (u * max_types + v) g.2)
 
-  new-inside : (u : ℕ) → So (get_or (set s (x * maxTypes + y) true) u false) → (u / maxTypes < n) × (u % maxTypes < n)
+  new-inside : (u : ℕ) → So (get_or (set s (x * max_types + y) true) u false) → (u / max_types < n) × (u % max_types < n)
   new-inside u k =
       ⊎_elim
-      (λ (a : u ≡ x * maxTypes + y). let o : (u / maxTypes < n) × (u % maxTypes < n) = (omega (arith, h.small), omega (arith, h.small)) in o)
+      (λ (a : u ≡ x * max_types + y). let o : (u / max_types < n) × (u % max_types < n) = (omega (arith, h.small), omega (arith, h.small)) in o)
       (λ (a : So (get_or s u false)). h.inside u a)
-      (set-less s (x * maxTypes + y) u k)
+      (set-less s (x * max_types + y) u k)
 
-  new-listed : Listed n (set s (x * maxTypes + y) true) (set l t (x * maxTypes + y)) (t + 1)
+  new-listed : Listed n (set s (x * max_types + y) true) (set l t (x * max_types + y)) (t + 1)
   new-listed = record {
     small = h.small;
-    slots = let z : length (set s (x * maxTypes + y) true) ≡ length s = length-set s (x * maxTypes + y) true in omega (arith, h.slots);
-    few = let z : length (set s (x * maxTypes + y) true) ≡ length s = length-set s (x * maxTypes + y) true in omega (arith, h.few);
-    room = length-set l t (x * maxTypes + y) ∙ h.room ∙ sym (length-set s (x * maxTypes + y) true);
+    slots = let z : length (set s (x * max_types + y) true) ≡ length s = length-set s (x * max_types + y) true in omega (arith, h.slots);
+    few = let z : length (set s (x * max_types + y) true) ≡ length s = length-set s (x * max_types + y) true in omega (arith, h.few);
+    room = length-set l t (x * max_types + y) ∙ h.room ∙ sym (length-set s (x * max_types + y) true);
     first = omega arith;
-    tally = (let a = yeses-set s (x * maxTypes + y) at_slot e in omega (arith, h.tally));
+    tally = (let a = yeses-set s (x * max_types + y) at_slot e in omega (arith, h.tally));
     inside = new-inside;
     back = new-back;
     forth = new-forth;
   }
 
-  only_one : (M : ℕ → ℕ → Bool) → So (M x y) → ((u v : ℕ) → So (found n s u v) → So (M u v)) → (u v : ℕ) → So (found n (set s (x * maxTypes + y) true) u v) → So (M u v)
+  only_one : (M : ℕ → ℕ → Bool) → So (M x y) → ((u v : ℕ) → So (found n s u v) → So (M u v)) → (u v : ℕ) → So (found n (set s (x * max_types + y) true) u v) → So (M u v)
   only_one M w i u v k =
-      let g = found-says n (set s (x * maxTypes + y) true) u v k in
+      let g = found-says n (set s (x * max_types + y) true) u v k in
       ⊎_elim
-      (λ (a : u * maxTypes + v ≡ x * maxTypes + y). let b : x ≡ u = omega (arith, h.small, g.1) in let c : y ≡ v = omega (arith, h.small, g.1) in rw (← b, ← c) w)
-      (λ (a : So (get_or s (u * maxTypes + v) false)). i u v (found-test n s u v g.0 g.1 a))
-      (set-less s (x * maxTypes + y) (u * maxTypes + v) g.2)
+      (λ (a : u * max_types + v ≡ x * max_types + y). let b : x ≡ u = omega (arith, h.small, g.1) in let c : y ≡ v = omega (arith, h.small, g.1) in rw (← b, ← c) w)
+      (λ (a : So (get_or s (u * max_types + v) false)). i u v (found-test n s u v g.0 g.1 a))
+      (set-less s (x * max_types + y) (u * max_types + v) g.2)
 
-  pub pair-new : Grew n (λ M. M x y) s l t (set s (x * maxTypes + y) true) (set l t (x * maxTypes + y)) (t + 1)
+  pub pair-new : Grew n (λ M. M x y) s l t (set s (x * max_types + y) true) (set l t (x * max_types + y)) (t + 1)
   unfolding Within
   pair-new = record {
     listed = new-listed;
-    more = λ u v k. (let g = found-says n s u v k in found-test n (set s (x * maxTypes + y) true) u v g.0 g.1 (set_more s (x * maxTypes + y) (u * maxTypes + v) g.2 at_slot));
-    kept = λ i k. get_or-set_other l t i (x * maxTypes + y) 0 (λ z. let d : i ≡ t = z in omega arith);
+    more = λ u v k. (let g = found-says n s u v k in found-test n (set s (x * max_types + y) true) u v g.0 g.1 (set_more s (x * max_types + y) (u * max_types + v) g.2 at_slot));
+    kept = λ i k. get_or-set_other l t i (x * max_types + y) 0 (λ z. let d : i ≡ t = z in omega arith);
     longer = omega arith;
-    has = found-test n (set s (x * maxTypes + y) true) x y p q (get_or-set_same s (x * maxTypes + y) true false at_slot);
+    has = found-test n (set s (x * max_types + y) true) x y p q (get_or-set_same s (x * max_types + y) true false at_slot);
     only = only_one;
   }
 

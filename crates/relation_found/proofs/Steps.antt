@@ -7,10 +7,10 @@ use native.Mathlib.Numerals.{add-one}
 use native.Mathlib.Omega.{arith}
 use lib.ListN.{length, get_or, take}
 use Rattle.spec_model.specs.Table.{permit}
-use Rattle.spec_model.specs.Relations.{Relation, stateRule, argsRule, answerRule, methodRule}
-use Rattle.spec_model.specs.Check.{RawMethod, state_of, answer_of, methodOf}
+use Rattle.spec_model.specs.Relations.{Relation, state_rule, args_rule, answer_rule, method_rule}
+use Rattle.spec_model.specs.Check.{RawMethod, state_of, answer_of, method_of}
 use Rattle.spec_model.proofs.Rules.{first}
-use Rattle.spec_model.specs.Records.{argumentSlots}
+use Rattle.spec_model.specs.Records.{argument_slots}
 use Rattle.relation_found.specs.declared.Step.{Step}
 use Rattle.relation_found.specs.declared.Step.TheVariants.{Tail}
 use Rattle.relation_found.specs.Found.{found, Listed, Grew, Broke, Met}
@@ -26,7 +26,7 @@ met-same n W U e s l t s' l' r m = met-as n W U s l t s' l' r (λ M h. e M ∙ h
 -- The answers, whose codes x and y were read as a and b.
 module _ (n x y a b : ℕ) (p : a ≡ x) (q : b ≡ y) where
   abbrev Answer : (ℕ → ℕ → Bool) → Bool
-  Answer M = answerRule M (answer_of x) (answer_of y)
+  Answer M = answer_rule M (answer_of x) (answer_of y)
 
   pub answers-left : a ≡ 0 → (b ≡ 0 → ⊥) → Broke n Answer
   answers-left u v = record { none = λ M i w. answer-left M x y (sym p ∙ u) (λ e. v (q ∙ e)) w }
@@ -43,14 +43,14 @@ module _ (n x y a b : ℕ) (p : a ≡ x) (q : b ≡ y) where
     answers-both s' l' r u v m = met-same n (λ M. M (a - 1) (b - 1)) Answer (λ M. answer-both M x y (λ e. u (p ∙ e)) (λ e. v (q ∙ e)) ∙ rw (p, q)) s l t s' l' r m
 
 -- The arguments: xs and ys are the slots, i and j the counts, u how many slots the first uses.
-module _ (n : ℕ) (xs ys : List ℕ) (lx : length xs ≡ argumentSlots) (ly : length ys ≡ argumentSlots) (i j u : ℕ) (pu : u ≤ argumentSlots) (eu : take i xs ≡ take u xs) where
+module _ (n : ℕ) (xs ys : List ℕ) (lx : length xs ≡ argument_slots) (ly : length ys ≡ argument_slots) (i j u : ℕ) (pu : u ≤ argument_slots) (eu : take i xs ≡ take u xs) where
   abbrev Args : (ℕ → ℕ → Bool) → Bool
-  Args M = argsRule M (take i xs) (take j ys)
+  Args M = args_rule M (take i xs) (take j ys)
 
   abbrev First : ℕ → (ℕ → ℕ → Bool) → Bool
-  First m M = argsRule M (take m xs) (take m ys)
+  First m M = args_rule M (take m xs) (take m ys)
 
-  pub arguments-differ : (v : ℕ) → v ≤ argumentSlots → take j ys ≡ take v ys → (u ≡ v → ⊥) → Broke n Args
+  pub arguments-differ : (v : ℕ) → v ≤ argument_slots → take j ys ≡ take v ys → (u ≡ v → ⊥) → Broke n Args
   arguments-differ v pv ev h = record { none = λ M k w. args-differ xs ys M u v (omega arith) (omega arith) h (rw (eu, ev) at w) }
 
   -- the second uses as many
@@ -76,19 +76,19 @@ module _ (n : ℕ) (xs ys : List ℕ) (lx : length xs ≡ argumentSlots) (ly : l
           rw (add-one m) (grew-as n (λ M. First m M && M y x) (First (suc m)) s l t s₂ l₂ t₂ (λ M w. d M ∙ w) (λ M w. sym (d M) ∙ w)
           (grew_then n (First m) (λ M. M y x) s l t s₁ l₁ t₁ s₂ l₂ t₂ (args-up (take m xs) (take m ys)) g k))
 
-pub arguments-start : (n : ℕ) (xs ys : List ℕ) (s : List Bool) (l : List ℕ) (t : ℕ) → Listed n s l t → Grew n (λ M. argsRule M (take 0 xs) (take 0 ys)) s l t s l t
-arguments-start n xs ys s l t h = stay n (λ M. argsRule M (take 0 xs) (take 0 ys)) s l t h refl
+pub arguments-start : (n : ℕ) (xs ys : List ℕ) (s : List Bool) (l : List ℕ) (t : ℕ) → Listed n s l t → Grew n (λ M. args_rule M (take 0 xs) (take 0 ys)) s l t s l t
+arguments-start n xs ys s l t h = stay n (λ M. args_rule M (take 0 xs) (take 0 ys)) s l t h refl
 
 -- One method of the two types: f is what the state rule says, g whether both permit it.
-module _ (n : ℕ) (k : Relation) (x y : RawMethod) (f : Bool) (fe : f ≡ stateRule k (state_of x.state) (state_of y.state)) where
+module _ (n : ℕ) (k : Relation) (x y : RawMethod) (f : Bool) (fe : f ≡ state_rule k (state_of x.state) (state_of y.state)) where
   abbrev Q : (ℕ → ℕ → Bool) → Bool
-  Q M = methodRule k M (methodOf x) (methodOf y)
+  Q M = method_rule k M (method_of x) (method_of y)
 
   abbrev Q₁ : (ℕ → ℕ → Bool) → Bool
-  Q₁ M = argsRule M (take x.count x.args) (take y.count y.args)
+  Q₁ M = args_rule M (take x.count x.args) (take y.count y.args)
 
   abbrev Q₂ : (ℕ → ℕ → Bool) → Bool
-  Q₂ M = answerRule M (answer_of x.answer) (answer_of y.answer)
+  Q₂ M = answer_rule M (answer_of x.answer) (answer_of y.answer)
 
   pub method-broke : f ≡ false → Broke n Q
   method-broke h = record { none = λ M i w. method-state k x y M (sym fe ∙ h) w }
@@ -107,7 +107,7 @@ module _ (n : ℕ) (k : Relation) (x y : RawMethod) (f : Bool) (fe : f ≡ state
       -- the answers' codes were read as a and b
       pub method-answer : (s : List Bool) (l : List ℕ) (t : ℕ) (s₁ : List Bool) (l₁ : List ℕ) (t₁ : ℕ) → Grew n Q₁ s l t s₁ l₁ t₁
           → (s₂ : List Bool) (l₂ : List ℕ) (r : Step) (a b : ℕ) → a ≡ x.answer → b ≡ y.answer
-          → Met n (λ M. answerRule M (answer_of a) (answer_of b)) s₁ l₁ t₁ s₂ l₂ r → Met n Q s l t s₂ l₂ r
+          → Met n (λ M. answer_rule M (answer_of a) (answer_of b)) s₁ l₁ t₁ s₂ l₂ r → Met n Q s l t s₂ l₂ r
       method-answer s l t s₁ l₁ t₁ m s₂ l₂ r a b p q m' =
           met-same n (λ M. Q₁ M && Q₂ M) Q on-is s l t s₂ l₂ r
           (met-then n Q₁ Q₂ s l t s₁ l₁ t₁ s₂ l₂ r (args-up (take x.count x.args) (take y.count y.args)) m (rw (p, q) at m'))

@@ -3,17 +3,17 @@
 use Rattle.std.specs.Prelude.{◌≡◌, Bool, true, false, ◌&&◌, List, map, ℕ, ◌+◌, ◌*◌, ◌/◌, ◌%◌, ◌≤◌, ◌<◌, leb, ltb, length, get_or, set}
 use Rattle.std.proofs.Math.Bool.{So}
 use Rattle.spec_model.specs.Relations.{yeses}
-use Rattle.spec_model.specs.Table.{maxTypes}
+use Rattle.spec_model.specs.Table.{max_types}
 use Rattle.relation_found.specs.declared.Step.{Step}
 use Rattle.relation_found.specs.declared.Step.TheVariants.{Broken, Tail}
 
 -- how many pairs of types there can be
-abbrev pub maxPairs : ℕ
-maxPairs = maxTypes * maxTypes
+abbrev pub max_pairs : ℕ
+max_pairs = max_types * max_types
 
--- The pair (x, y) has the number x * maxTypes + y. `marks` says of each number whether its pair is found: a relation of the n types, as the model has them.
+-- The pair (x, y) has the number x * max_types + y. `marks` says of each number whether its pair is found: a relation of the n types, as the model has them.
 abbrev pub found : ℕ → List Bool → ℕ → ℕ → Bool
-found n marks x y = ltb x n && (ltb y n && get_or marks (x * maxTypes + y) false)
+found n marks x y = ltb x n && (ltb y n && get_or marks (x * max_types + y) false)
 
 unfoldable pub Within : (ℕ → ℕ → Bool) → (ℕ → ℕ → Bool) → Type 0
 Within M N = (x y : ℕ) → So (M x y) → So (N x y)
@@ -26,21 +26,21 @@ pub record Queued (queue : List ℕ) (t p : ℕ) : Type 0 where
 
 -- p is the number of a pair that is found
 pub record Pair (n : ℕ) (marks : List Bool) (p : ℕ) : Type 0 where
-  pub low : p / maxTypes < n
-  pub high : p % maxTypes < n
+  pub low : p / max_types < n
+  pub high : p % max_types < n
   pub known : So (get_or marks p false)
 
 -- t pairs are found, at least one, all of them of the n types, and the first t numbers in the queue are theirs
 pub record Listed (n : ℕ) (marks : List Bool) (queue : List ℕ) (t : ℕ) : Type 0 where
-  pub small : n ≤ maxTypes
-  pub slots : n * maxTypes ≤ length marks
-  pub few : length marks ≤ maxPairs
+  pub small : n ≤ max_types
+  pub slots : n * max_types ≤ length marks
+  pub few : length marks ≤ max_pairs
   pub room : length queue ≡ length marks
   pub first : 0 < t
   pub tally : yeses marks ≡ t
-  pub inside : (p : ℕ) → So (get_or marks p false) → (p / maxTypes < n) × (p % maxTypes < n)
+  pub inside : (p : ℕ) → So (get_or marks p false) → (p / max_types < n) × (p % max_types < n)
   pub back : (i : ℕ) → i < t → Pair n marks (get_or queue i 0)
-  pub forth : (x y : ℕ) → So (found n marks x y) → Queued queue t (x * maxTypes + y)
+  pub forth : (x y : ℕ) → So (found n marks x y) → Queued queue t (x * max_types + y)
 
 -- A step looks at a piece W of a pair's rule: a test over the relation that says which pairs of types in signatures are related.
 -- It may have found more pairs. Then what is found now passes W, and is within every relation that passes W and has what was found before.
@@ -61,21 +61,21 @@ abbrev pub Met : ℕ → ((ℕ → ℕ → Bool) → Bool) → List Bool → Lis
 Met n W marks queue t marks' queue' Broken = Broke n W
 Met n W marks queue t marks' queue' (Tail r) = Grew n W marks queue t marks' queue' r
 
--- The search has `marks` and the queue in one array of 16-bit entries, since a pair's number is below `maxPairs`: entry i has the i-th number of the queue in its low
+-- The search has `marks` and the queue in one array of 16-bit entries, since a pair's number is below `max_pairs`: entry i has the i-th number of the queue in its low
 -- 15 bits, and its top bit says whether the pair of number i is found.
-unfoldable pub marksIn : List ℕ → List Bool
-marksIn b = map (λ v. leb 32768 v) b
+unfoldable pub marks_in : List ℕ → List Bool
+marks_in b = map (λ v. leb 32768 v) b
 
-unfoldable pub queueIn : List ℕ → List ℕ
-queueIn b = map (λ v. v % 32768) b
+unfoldable pub queue_in : List ℕ → List ℕ
+queue_in b = map (λ v. v % 32768) b
 
 -- b' is b with the pair of number p found, and in place t of the queue
 abbrev pub Added : List ℕ → ℕ → ℕ → List ℕ → Type 0
-Added b t p b' = (marksIn b' ≡ set (marksIn b) p true) × (queueIn b' ≡ set (queueIn b) t p)
+Added b t p b' = (marks_in b' ≡ set (marks_in b) p true) × (queue_in b' ≡ set (queue_in b) t p)
 
 -- what is found in b, and what a step from b to b' promises
 abbrev pub ListedIn : ℕ → List ℕ → ℕ → Type 0
-ListedIn n b t = Listed n (marksIn b) (queueIn b) t
+ListedIn n b t = Listed n (marks_in b) (queue_in b) t
 
 abbrev pub MetIn : ℕ → ((ℕ → ℕ → Bool) → Bool) → List ℕ → ℕ → List ℕ → Step → Type 0
-MetIn n W b t b' r = Met n W (marksIn b) (queueIn b) t (marksIn b') (queueIn b') r
+MetIn n W b t b' r = Met n W (marks_in b) (queue_in b) t (marks_in b') (queue_in b') r

@@ -1,14 +1,14 @@
 // What a search for a relation at a pair of types (R3, crate `relation_search`) has found, and what it finds through one method of a pair. Pairs are found in a
 // queue, each once. One array has the queue and says which pairs are found (specs/Found.antt), so that one that is met again takes a test and no place.
 ghost use Rattle.std.specs.Prelude.{◌≡◌, List, ℕ, ◌+◌, ◌≤◌, ◌<◌, leb, length, take};
-ghost use Rattle.spec_model.specs.Relations.{argsRule, answerRule, methodRule};
+ghost use Rattle.spec_model.specs.Relations.{args_rule, answer_rule, method_rule};
 ghost use Rattle.spec_model.specs.Check.{answer_of};
-ghost use Rattle.spec_model.specs.Table.{maxMethods, maxTypes};
-ghost use Rattle.spec_model.specs.Records.{argumentSlots};
-ghost use Rattle.table_record.specs.Store.{rawIn, methodIn};
-ghost use Rattle.relation_states.specs.Asked.{relationOf};
+ghost use Rattle.spec_model.specs.Table.{max_methods, max_types};
+ghost use Rattle.spec_model.specs.Records.{argument_slots};
+ghost use Rattle.table_record.specs.Store.{raw_in, method_in};
+ghost use Rattle.relation_states.specs.Asked.{relation_of};
 ghost use Rattle.relation_states.specs.Squares.{Says};
-ghost use Rattle.relation_found.specs.Found.{Added, ListedIn, MetIn, maxPairs};
+ghost use Rattle.relation_found.specs.Found.{Added, ListedIn, MetIn, max_pairs};
 
 use base_numbers::{least, wide, wide16};
 use relation_states::Relation;
@@ -32,7 +32,7 @@ fn is_found(entry: u16) -> bool
 
 // The pair of number p is found, and joins the queue behind the `tail` pairs in it: the top bit of entry p, and the rest of entry `tail`.
 pub fn add_pair(found: &mut [u16], tail: usize, p: usize) -> usize
-    requires { (tail < length found.old) × (p < length found.old) × (length found.old ≤ maxPairs) }
+    requires { (tail < length found.old) × (p < length found.old) × (length found.old ≤ max_pairs) }
     ensures { (result ≡ tail + 1) × Added found.old tail p found.new }
 {
     found[p] = found[p] % 32768 + 32768;
@@ -86,7 +86,7 @@ fn find_pair(found: &mut [u16], tail: usize, n: usize, x: usize, y: usize) -> St
 
 // How many of the four slots a count of arguments uses. A table that is checked has no count above them.
 fn slots_used(count: u8) -> usize
-    ensures { (result ≤ argumentSlots) × ((xs : List ℕ) → length xs ≡ argumentSlots → take count xs ≡ take result xs) }
+    ensures { (result ≤ argument_slots) × ((xs : List ℕ) → length xs ≡ argument_slots → take count xs ≡ take result xs) }
 {
     least(wide(count), Method::SLOTS)
 }
@@ -101,10 +101,10 @@ fn find_arguments(
     d: usize,
     j: usize,
 ) -> Step
-    requires { ListedIn n found.old tail × (a < maxTypes) × (d < maxTypes) × (j < maxMethods) }
+    requires { ListedIn n found.old tail × (a < max_types) × (d < max_types) × (j < max_methods) }
     ensures { MetIn n
-        (λ M. argsRule M (take (rawIn b.now a j).count (rawIn b.now a j).args)
-        (take (rawIn b.now d j).count (rawIn b.now d j).args))
+        (λ M. args_rule M (take (raw_in b.now a j).count (raw_in b.now a j).args)
+        (take (raw_in b.now d j).count (raw_in b.now d j).args))
         found.old tail found.new result }
 {
     let count = method_count(b, a, j);
@@ -132,7 +132,7 @@ fn find_arguments(
 // R4 and R5: both have an answer or neither, and then they are related in the direction of the pair.
 fn find_answer(found: &mut [u16], tail: usize, n: usize, x: u8, y: u8) -> Step
     requires { ListedIn n found.old tail }
-    ensures { MetIn n (λ M. answerRule M (answer_of x) (answer_of y)) found.old tail found.new result }
+    ensures { MetIn n (λ M. answer_rule M (answer_of x) (answer_of y)) found.old tail found.new result }
 {
     let a = wide(x);
     let d = wide(y);
@@ -160,8 +160,8 @@ pub fn find_method(
     d: usize,
     j: usize,
 ) -> Step
-    requires { ListedIn n found.old tail × Says (relationOf k) square.now × (a < maxTypes) × (d < maxTypes) × (j < maxMethods) }
-    ensures { MetIn n (λ M. methodRule (relationOf k) M (methodIn b.now a j) (methodIn b.now d j)) found.old tail
+    requires { ListedIn n found.old tail × Says (relation_of k) square.now × (a < max_types) × (d < max_types) × (j < max_methods) }
+    ensures { MetIn n (λ M. method_rule (relation_of k) M (method_in b.now a j) (method_in b.now d j)) found.old tail
         found.new result }
 {
     let x = method_state(b, a, j);

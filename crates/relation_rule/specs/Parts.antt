@@ -2,11 +2,11 @@
 use Rattle.std.specs.Prelude.{Bool, true, false, ◌&&◌, ◌||◌, cond, List, [], ◌∷◌, ℕ, zero, suc, eqb, get_or}
 use Rattle.spec_model.specs.Basics.{◌⇒◌, any, from}
 use Rattle.spec_model.specs.Table.{Rep, Table}
-use Rattle.spec_model.specs.Relations.{Relation, subtype, conforms, strict, loose, free, sameRep, sameSort, catLe}
-use Rattle.spec_model.specs.Check.{repOf}
+use Rattle.spec_model.specs.Relations.{Relation, subtype, conforms, strict, loose, free, same_rep, same_sort, cat_le}
+use Rattle.spec_model.specs.Check.{rep_of}
 use Rattle.table_record.specs.declared.Counts.{Counts}
 use Rattle.table_record.specs.declared.Head.{Head}
-use Rattle.table_record.specs.Store.{rawOf, broaderOf, own_of}
+use Rattle.table_record.specs.Store.{raw_of, broader_of, own_of}
 
 -- Whether a relation asks for the same representation; the others ask that both are ref or both numbers
 abbrev pub exact : Relation → Bool
@@ -32,27 +32,27 @@ owned strict = false
 owned loose = false
 owned free = false
 
-abbrev pub repRule : Relation → Rep → Rep → Bool
-repRule k a b = cond (exact k) (sameRep a b) (sameSort a b)
+abbrev pub rep_rule : Relation → Rep → Rep → Bool
+rep_rule k a b = cond (exact k) (same_rep a b) (same_sort a b)
 
 -- the own flag of a type by its head: methods don't count
-abbrev pub headOwns : Head → Bool
-headOwns x = own_of (rawOf (record { head = x; methods = [] }))
+abbrev pub head_owns : Head → Bool
+head_owns x = own_of (raw_of (record { head = x; methods = [] }))
 
 -- what a relation asks of the two heads, in a table of which only the categories matter here
-unfoldable pub outerHeads : Relation → Table → Head → Head → Bool
-unfolding catLe
-outerHeads k t x y = repRule k (repOf x.rep) (repOf y.rep) && ((ordered k ⇒ catLe t x.cat y.cat) && (owned k ⇒ (headOwns x ⇒ headOwns y)))
+unfoldable pub outer_heads : Relation → Table → Head → Head → Bool
+unfolding cat_le
+outer_heads k t x y = rep_rule k (rep_of x.rep) (rep_of y.rep) && ((ordered k ⇒ cat_le t x.cat y.cat) && (owned k ⇒ (head_owns x ⇒ head_owns y)))
 
 -- the broader categories of every category; category 0 names none. They are `broader` of the table (proofs/Categories).
-unfoldable pub broaderIn : List ℕ → Counts → List (List ℕ)
-broaderIn l c = [] ∷ from c.cats 1 (broaderOf l)
+unfoldable pub broader_in : List ℕ → Counts → List (List ℕ)
+broader_in l c = [] ∷ from c.cats 1 (broader_of l)
 
 -- Category a ≤ x by the links of x, from what is known of the categories below x.
-unfoldable pub catNext : List (List ℕ) → List Bool → ℕ → ℕ → Bool
-catNext links done a x = eqb a 0 || (eqb a x || any (λ k. get_or done k false) (get_or links x []))
+unfoldable pub cat_next : List (List ℕ) → List Bool → ℕ → ℕ → Bool
+cat_next links done a x = eqb a 0 || (eqb a x || any (λ k. get_or done k false) (get_or links x []))
 
 -- a test of every number below m
-unfoldable pub eachBelow : ℕ → (ℕ → Bool) → Bool
-eachBelow zero f = true
-eachBelow (suc m) f = eachBelow m f && f m
+unfoldable pub each_below : ℕ → (ℕ → Bool) → Bool
+each_below zero f = true
+each_below (suc m) f = each_below m f && f m

@@ -2,13 +2,13 @@
 // crate `relation_states`; the pairs that signatures lead to are found in crate `relation_found`.
 ghost use Rattle.std.specs.Prelude.{◌≡◌, List, ℕ, suc, ◌<◌};
 ghost use Rattle.spec_model.specs.Basics.{◌⇒◌};
-ghost use Rattle.spec_model.specs.Table.{maxCategories};
-ghost use Rattle.spec_model.specs.Relations.{sameRep, sameSort, catLe};
-ghost use Rattle.spec_model.specs.Check.{repOf};
-ghost use Rattle.table_record.specs.Store.{tableIn};
+ghost use Rattle.spec_model.specs.Table.{max_categories};
+ghost use Rattle.spec_model.specs.Relations.{same_rep, same_sort, cat_le};
+ghost use Rattle.spec_model.specs.Check.{rep_of};
+ghost use Rattle.table_record.specs.Store.{table_in};
 ghost use Rattle.table_record.specs.Limits.{Checked};
-ghost use Rattle.relation_states.specs.Asked.{relationOf};
-ghost use Rattle.relation_rule.specs.Parts.{exact, ordered, owned, repRule, headOwns, outerHeads, broaderIn, catNext};
+ghost use Rattle.relation_states.specs.Asked.{relation_of};
+ghost use Rattle.relation_rule.specs.Parts.{exact, ordered, owned, rep_rule, head_owns, outer_heads, broader_in, cat_next};
 
 use base_numbers::wide;
 use relation_states::Relation;
@@ -22,8 +22,8 @@ fn category_next(
     a: usize,
     x: usize,
 ) -> bool
-    requires { Checked l.now c × (x < suc maxCategories) }
-    ensures { result ≡ catNext (broaderIn l.now c) done.now a x }
+    requires { Checked l.now c × (x < suc max_categories) }
+    ensures { result ≡ cat_next (broader_in l.now c) done.now a x }
 {
     if a == 0 {
         return true;
@@ -52,7 +52,7 @@ fn category_next(
 // T7, category a ≤ b: where that is not plain, asked of each category below b, from 0 up, and then of b.
 fn category_le(l: &[u8; LINK_BYTES], c: Counts, a: usize, b: usize) -> bool
     requires { Checked l.now c }
-    ensures { (types : List ℕ) → result ≡ catLe (tableIn types l.now c) a b }
+    ensures { (types : List ℕ) → result ≡ cat_le (table_in types l.now c) a b }
 {
     if a == 0 {
         return true;
@@ -75,7 +75,7 @@ fn category_le(l: &[u8; LINK_BYTES], c: Counts, a: usize, b: usize) -> bool
 
 // The same representation. A code that names none is read as w64.
 fn same_rep(x: u8, y: u8) -> bool
-    ensures { result ≡ sameRep (repOf x) (repOf y) }
+    ensures { result ≡ same_rep (rep_of x) (rep_of y) }
 {
     if x == Head::REF {
         return y == Head::REF;
@@ -88,7 +88,7 @@ fn same_rep(x: u8, y: u8) -> bool
 
 // Both ref or both numbers.
 fn same_sort(x: u8, y: u8) -> bool
-    ensures { result ≡ sameSort (repOf x) (repOf y) }
+    ensures { result ≡ same_sort (rep_of x) (rep_of y) }
 {
     if x == Head::REF {
         return y == Head::REF;
@@ -98,7 +98,7 @@ fn same_sort(x: u8, y: u8) -> bool
 
 // Which relations ask for the same representation.
 fn asks_rep(k: Relation) -> bool
-    ensures { result ≡ exact (relationOf k) }
+    ensures { result ≡ exact (relation_of k) }
 {
     match k {
         Relation::Subtype => true,
@@ -111,7 +111,7 @@ fn asks_rep(k: Relation) -> bool
 
 // Which ask that the category of T ≤ that of S.
 fn asks_category(k: Relation) -> bool
-    ensures { result ≡ ordered (relationOf k) }
+    ensures { result ≡ ordered (relation_of k) }
 {
     match k {
         Relation::Subtype => true,
@@ -124,7 +124,7 @@ fn asks_category(k: Relation) -> bool
 
 // Which ask that T is own only if S is own.
 fn asks_own(k: Relation) -> bool
-    ensures { result ≡ owned (relationOf k) }
+    ensures { result ≡ owned (relation_of k) }
 {
     match k {
         Relation::Subtype => true,
@@ -136,7 +136,7 @@ fn asks_own(k: Relation) -> bool
 }
 
 fn rep_rule(k: Relation, x: u8, y: u8) -> bool
-    ensures { result ≡ repRule (relationOf k) (repOf x) (repOf y) }
+    ensures { result ≡ rep_rule (relation_of k) (rep_of x) (rep_of y) }
 {
     let asked = asks_rep(k);
     if asked {
@@ -147,7 +147,7 @@ fn rep_rule(k: Relation, x: u8, y: u8) -> bool
 
 fn category_rule(l: &[u8; LINK_BYTES], c: Counts, k: Relation, x: u8, y: u8) -> bool
     requires { Checked l.now c }
-    ensures { (types : List ℕ) → result ≡ (ordered (relationOf k) ⇒ catLe (tableIn types l.now c) x y) }
+    ensures { (types : List ℕ) → result ≡ (ordered (relation_of k) ⇒ cat_le (table_in types l.now c) x y) }
 {
     let asked = asks_category(k);
     if asked {
@@ -160,7 +160,7 @@ fn category_rule(l: &[u8; LINK_BYTES], c: Counts, k: Relation, x: u8, y: u8) -> 
 
 // The own flag, which a number type has not.
 fn owns(x: Head) -> bool
-    ensures { result ≡ headOwns x }
+    ensures { result ≡ head_owns x }
 {
     if x.rep == Head::REF {
         return x.own == Head::OWN;
@@ -169,7 +169,7 @@ fn owns(x: Head) -> bool
 }
 
 fn own_rule(k: Relation, x: Head, y: Head) -> bool
-    ensures { result ≡ (owned (relationOf k) ⇒ (headOwns x ⇒ headOwns y)) }
+    ensures { result ≡ (owned (relation_of k) ⇒ (head_owns x ⇒ head_owns y)) }
 {
     let asked = asks_own(k);
     if asked {
@@ -185,7 +185,7 @@ fn own_rule(k: Relation, x: Head, y: Head) -> bool
 // What a relation asks of representation, category and own flag of T and S.
 pub fn outer_rule(l: &[u8; LINK_BYTES], c: Counts, k: Relation, x: Head, y: Head) -> bool
     requires { Checked l.now c }
-    ensures { (types : List ℕ) → result ≡ outerHeads (relationOf k) (tableIn types l.now c) x y }
+    ensures { (types : List ℕ) → result ≡ outer_heads (relation_of k) (table_in types l.now c) x y }
 {
     let alike = rep_rule(k, x.rep, y.rep);
     if !alike {

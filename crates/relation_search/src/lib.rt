@@ -2,14 +2,14 @@
 // so pairs are found in a queue, each once (crate `relation_found`), and the rule of each is asked. So a relation at a pair takes time linear in the pairs that
 // can be reached, no heap, and never visits a pair twice.
 ghost use Rattle.std.specs.Prelude.{◌≡◌, ◌/◌, ◌%◌, ◌≤◌, ◌<◌, get_or};
-ghost use Rattle.spec_model.specs.Relations.{methodRule, rule, related};
-ghost use Rattle.spec_model.specs.Table.{maxMethods, maxTypes};
-ghost use Rattle.table_record.specs.Store.{tableIn, methodIn};
+ghost use Rattle.spec_model.specs.Relations.{method_rule, rule, related};
+ghost use Rattle.spec_model.specs.Table.{max_methods, max_types};
+ghost use Rattle.table_record.specs.Store.{table_in, method_in};
 ghost use Rattle.table_record.specs.Limits.{Checked};
-ghost use Rattle.relation_states.specs.Asked.{relationOf};
+ghost use Rattle.relation_states.specs.Asked.{relation_of};
 ghost use Rattle.relation_states.specs.Squares.{Says};
-ghost use Rattle.relation_found.specs.Found.{queueIn, ListedIn, MetIn};
-ghost use Rattle.relation_search.specs.Search.{eachBelow, Clear};
+ghost use Rattle.relation_found.specs.Found.{queue_in, ListedIn, MetIn};
+ghost use Rattle.relation_search.specs.Search.{each_below, Clear};
 
 use base_numbers::wide16;
 use relation_found::Step;
@@ -43,8 +43,8 @@ fn find_methods(
     a: usize,
     d: usize,
 ) -> Step
-    requires { ListedIn n found.old tail × Says (relationOf k) square.now × (a < maxTypes) × (d < maxTypes) × (methods ≤ maxMethods) }
-    ensures { MetIn n (λ M. eachBelow methods (λ j. methodRule (relationOf k) M (methodIn b.now a j) (methodIn b.now d j)))
+    requires { ListedIn n found.old tail × Says (relation_of k) square.now × (a < max_types) × (d < max_types) × (methods ≤ max_methods) }
+    ensures { MetIn n (λ M. each_below methods (λ j. method_rule (relation_of k) M (method_in b.now a j) (method_in b.now d j)))
         found.old tail found.new result }
 {
     let mut t = tail;
@@ -71,8 +71,8 @@ fn find_types(
     a: usize,
     d: usize,
 ) -> Step
-    requires { ListedIn c.types found.old tail × Says (relationOf k) square.now × Checked l.now c × (a < c.types) × (d < c.types) }
-    ensures { MetIn c.types (λ M. rule (relationOf k) (tableIn b.now l.now c) M a d) found.old tail
+    requires { ListedIn c.types found.old tail × Says (relation_of k) square.now × Checked l.now c × (a < c.types) × (d < c.types) }
+    ensures { MetIn c.types (λ M. rule (relation_of k) (table_in b.now l.now c) M a d) found.old tail
         found.new result }
 {
     let x = table_record::get_head(b, a);
@@ -98,10 +98,10 @@ fn find_next(
     k: Relation,
     square: &[[bool; 4]; 4],
 ) -> Step
-    requires { ListedIn c.types found.old tail × Says (relationOf k) square.now × Checked l.now c × (head < tail) }
+    requires { ListedIn c.types found.old tail × Says (relation_of k) square.now × Checked l.now c × (head < tail) }
     ensures { MetIn c.types
-        (λ M. rule (relationOf k) (tableIn b.now l.now c) M (get_or (queueIn found.old) head 0 / maxTypes)
-        (get_or (queueIn found.old) head 0 % maxTypes))
+        (λ M. rule (relation_of k) (table_in b.now l.now c) M (get_or (queue_in found.old) head 0 / max_types)
+        (get_or (queue_in found.old) head 0 % max_types))
         found.old tail found.new result }
 {
     let p = wide16(found[head]) % 32768;
@@ -129,8 +129,8 @@ fn search_in(
     t: usize,
     s: usize,
 ) -> bool
-    requires { Says (relationOf k) square.now × Checked l.now c × (t < c.types) × (s < c.types) × Clear c.types found.old }
-    ensures { result ≡ related (relationOf k) (tableIn b.now l.now c) t s }
+    requires { Says (relation_of k) square.now × Checked l.now c × (t < c.types) × (s < c.types) × Clear c.types found.old }
+    ensures { result ≡ related (relation_of k) (table_in b.now l.now c) t s }
 {
     let mut tail = relation_found::add_pair(found, 0, t * Counts::TYPES + s);
     let mut head: usize = 0;
@@ -154,8 +154,8 @@ fn search(
     t: usize,
     s: usize,
 ) -> bool
-    requires { Says (relationOf k) square.now × Checked l.now c × (t < c.types) × (s < c.types) }
-    ensures { result ≡ related (relationOf k) (tableIn b.now l.now c) t s }
+    requires { Says (relation_of k) square.now × Checked l.now c × (t < c.types) × (s < c.types) }
+    ensures { result ≡ related (relation_of k) (table_in b.now l.now c) t s }
 {
     if c.types <= FEW {
         let mut few = [0u16; FEW_PAIRS];
@@ -183,7 +183,7 @@ pub fn related_at(
     s: usize,
 ) -> bool
     requires { Checked l.now c }
-    ensures { result ≡ related (relationOf k) (tableIn b.now l.now c) t s }
+    ensures { result ≡ related (relation_of k) (table_in b.now l.now c) t s }
 {
     if c.types <= t {
         return false;

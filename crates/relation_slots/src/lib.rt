@@ -1,8 +1,8 @@
 // The slots of a sheet's types, a byte each, and for each slot and type the word of the types that have it there (specs/Slots.antt).
 ghost use Rattle.std.specs.Prelude.{◌≡◌, List, ℕ, ◌≤◌, ◌<◌, length, get_or};
-ghost use Rattle.spec_model.specs.Table.{maxMethods, maxSheetTypes};
-ghost use Rattle.table_record.specs.Store.{tableIn, methodIn};
-ghost use Rattle.relation_slots.specs.Slots.{typeSlots, sheetSlots, slot_of, slot_at, Roomy, Slots, Users};
+ghost use Rattle.spec_model.specs.Table.{max_methods, max_sheet_types};
+ghost use Rattle.table_record.specs.Store.{table_in, method_in};
+ghost use Rattle.relation_slots.specs.Slots.{type_slots, sheet_slots, slot_of, slot_at, Roomy, Slots, Users};
 ghost use Rattle.relation_slots.specs.Noting.{Noted};
 
 use base_numbers::wide;
@@ -17,8 +17,8 @@ pub const SHEET_SLOTS: usize = Counts::SHEET_TYPES * TYPE_SLOTS;
 
 // Slot i of method j of the reference type t.
 fn method_slot(b: &[u8; TYPE_BYTES], t: usize, j: usize, i: usize) -> u8
-    requires { (t < maxSheetTypes) × (j < maxMethods) × (slot_of (methodIn b.now t j) i ≤ maxSheetTypes) }
-    ensures { result ≡ slot_of (methodIn b.now t j) i }
+    requires { (t < max_sheet_types) × (j < max_methods) × (slot_of (method_in b.now t j) i ≤ max_sheet_types) }
+    ensures { result ≡ slot_of (method_in b.now t j) i }
 {
     let state = table_record::method_state(b, t, j);
     let fine = table_record::permits(state);
@@ -37,8 +37,8 @@ fn method_slot(b: &[u8; TYPE_BYTES], t: usize, j: usize, i: usize) -> u8
 
 // Slot q of type t.
 fn slot_at(b: &[u8; TYPE_BYTES], c: Counts, t: usize, q: usize) -> u8
-    requires { (t < c.types) × (q < typeSlots) × ((l : List ℕ) → Roomy (tableIn b.now l c)) }
-    ensures { (l : List ℕ) → result ≡ slot_at (tableIn b.now l c) t q }
+    requires { (t < c.types) × (q < type_slots) × ((l : List ℕ) → Roomy (table_in b.now l c)) }
+    ensures { (l : List ℕ) → result ≡ slot_at (table_in b.now l c) t q }
 {
     let j = q / METHOD_SLOTS;
     if c.methods <= j {
@@ -53,8 +53,8 @@ fn slot_at(b: &[u8; TYPE_BYTES], c: Counts, t: usize, q: usize) -> u8
 
 // The slots of all types.
 pub fn slots_of(b: &[u8; TYPE_BYTES], c: Counts) -> [u8; SHEET_SLOTS]
-    requires { (l : List ℕ) → Roomy (tableIn b.now l c) }
-    ensures { (l : List ℕ) → Slots (tableIn b.now l c) result }
+    requires { (l : List ℕ) → Roomy (table_in b.now l c) }
+    ensures { (l : List ℕ) → Slots (table_in b.now l c) result }
 {
     let mut slots = [0u8; SHEET_SLOTS];
     let all = c.types * TYPE_SLOTS;
@@ -69,7 +69,7 @@ pub fn slots_of(b: &[u8; TYPE_BYTES], c: Counts) -> [u8; SHEET_SLOTS]
 
 // Type t joins those that have in slot q what x says.
 fn note(users: &mut [u64; SHEET_SLOTS], x: usize, q: usize, t: usize)
-    requires { (length users.old ≡ sheetSlots) × (x ≤ maxSheetTypes) × (q < typeSlots) × (t < 64) }
+    requires { (length users.old ≡ sheet_slots) × (x ≤ max_sheet_types) × (q < type_slots) × (t < 64) }
     ensures { Noted x q t users.old users.new }
 {
     if x == 0 {
@@ -82,7 +82,7 @@ fn note(users: &mut [u64; SHEET_SLOTS], x: usize, q: usize, t: usize)
 
 // The users of every type, by slots.
 pub fn users_of(slots: &[u8; SHEET_SLOTS]) -> [u64; SHEET_SLOTS]
-    requires { ((p : ℕ) → get_or slots.now p 0 ≤ maxSheetTypes) × (length slots.now ≡ sheetSlots) }
+    requires { ((p : ℕ) → get_or slots.now p 0 ≤ max_sheet_types) × (length slots.now ≡ sheet_slots) }
     ensures { Users slots.now result }
 {
     let mut users = [0u64; SHEET_SLOTS];

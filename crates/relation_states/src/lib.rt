@@ -2,9 +2,9 @@
 // sides permit the method (R7). The rule of the two types besides their methods is in crate `relation_rule`.
 ghost use Rattle.std.specs.Prelude.{◌≡◌, false, ◌&&◌, [], ◌<◌, get_or};
 ghost use Rattle.spec_model.specs.Table.{permit};
-ghost use Rattle.spec_model.specs.Relations.{stateRule};
+ghost use Rattle.spec_model.specs.Relations.{state_rule};
 ghost use Rattle.spec_model.specs.Check.{state_of};
-ghost use Rattle.relation_states.specs.Asked.{relationOf};
+ghost use Rattle.relation_states.specs.Asked.{relation_of};
 ghost use Rattle.relation_states.specs.Squares.{Says};
 
 use base_numbers::wide;
@@ -54,7 +54,7 @@ pub const ANY_STATES: [[bool; 4]; 4] = [
 
 // The square of yes and no that is the state rule of a relation.
 pub fn state_square(k: Relation) -> [[bool; 4]; 4]
-    ensures { Says (relationOf k) result }
+    ensures { Says (relation_of k) result }
 {
     match k {
         Relation::Subtype => STATE_ORDER,
@@ -87,8 +87,8 @@ fn states_compare(square: [[bool; 4]; 4], a: usize, b: usize) -> bool
 // The state rule of the relation k, whose square is handed in, at the codes of T's state and of S's. Every relation lets a state stand with itself, which most
 // pairs ask.
 pub fn state_rule(square: &[[bool; 4]; 4], k: Relation, a: u8, b: u8) -> bool
-    requires { Says (relationOf k) square.now }
-    ensures { result ≡ stateRule (relationOf k) (state_of a) (state_of b) }
+    requires { Says (relation_of k) square.now }
+    ensures { result ≡ state_rule (relation_of k) (state_of a) (state_of b) }
 {
     if a == b {
         return true;

@@ -4,7 +4,7 @@ use Rattle.std.proofs.Math.Bool.{So}
 use Rattle.spec_model.specs.Table.{Table, size}
 use Rattle.spec_model.specs.Relations.{Relation, rule}
 use Rattle.base_bits.specs.Word.{bit_at}
-use Rattle.relation_slots.specs.Slots.{SlotsKept, Roomy, Slots, keepsAlone}
+use Rattle.relation_slots.specs.Slots.{SlotsKept, Roomy, Slots, keeps_alone}
 
 abbrev pub has : List ℕ → ℕ → ℕ → Bool
 has rows x y = bit_at (get_or rows x 0) y
@@ -13,7 +13,7 @@ has rows x y = bit_at (get_or rows x 0) y
 -- whole rule, by the relation as it stands.
 pub record Doubted (k : Relation) (T : Table) (rows : List ℕ) (a asked : ℕ) : Type 0 where
   pub inside : (s : ℕ) → So (has rows a s) → (a < size T) × (s < size T)
-  pub alone : (s : ℕ) → So (has rows a s) → So (keepsAlone k T a s)
+  pub alone : (s : ℕ) → So (has rows a s) → So (keeps_alone k T a s)
   pub sure : (s : ℕ) → So (has rows a s) → bit_at asked s ≡ false → So (rule k T (has rows) a s)
 
 -- What it does, in any table of these slots and for any relation: exactly the bits are cleared whose pairs break their rule by the relation as it stands.

@@ -5,11 +5,11 @@
 ghost use Rattle.std.specs.Prelude.{◌≡◌, ◌&&◌, List, ℕ, ◌+◌, ◌≤◌, ◌<◌, eqb, get_or};
 ghost use Rattle.std.proofs.Math.Bool.{So};
 ghost use Rattle.spec_model.specs.Basics.{◌⇒◌};
-ghost use Rattle.spec_model.specs.Table.{maxMethods, maxSheetTypes};
+ghost use Rattle.spec_model.specs.Table.{max_methods, max_sheet_types};
 ghost use Rattle.base_bits.specs.Word.{bit_at};
-ghost use Rattle.relation_slots.specs.Slots.{methodSlots, sheetSlots, Laid, slotsKeep};
+ghost use Rattle.relation_slots.specs.Slots.{method_slots, sheet_slots, Laid, slots_keep};
 ghost use Rattle.relation_strike.specs.Step.{has, Struck, Sifted};
-ghost use Rattle.relation_strike.specs.Parts.{methodKeeps, pairKeeps};
+ghost use Rattle.relation_strike.specs.Parts.{method_keeps, pair_keeps};
 
 use base_numbers::wide;
 use relation_slots::{METHOD_SLOTS, SHEET_SLOTS, TYPE_SLOTS};
@@ -17,8 +17,8 @@ use table_record::Counts;
 
 // Whether the pair that two slots name, if both name a type, is related as it stands.
 fn slots_keep(rows: &[u64; Counts::SHEET_TYPES], u: u8, v: u8) -> bool
-    requires { (u ≤ maxSheetTypes) × (v ≤ maxSheetTypes) }
-    ensures { result ≡ slotsKeep (has rows.now) u v }
+    requires { (u ≤ max_sheet_types) × (v ≤ max_sheet_types) }
+    ensures { result ≡ slots_keep (has rows.now) u v }
 {
     if u == 0 {
         return true;
@@ -36,8 +36,8 @@ fn method_keeps(
     p: usize,
     r: usize,
 ) -> bool
-    requires { (p + methodSlots ≤ sheetSlots) × (r + methodSlots ≤ sheetSlots) × ((i : ℕ) → get_or slots.now i 0 ≤ maxSheetTypes) }
-    ensures { result ≡ methodKeeps (has rows.now) slots.now p r }
+    requires { (p + method_slots ≤ sheet_slots) × (r + method_slots ≤ sheet_slots) × ((i : ℕ) → get_or slots.now i 0 ≤ max_sheet_types) }
+    ensures { result ≡ method_keeps (has rows.now) slots.now p r }
 {
     let first = slots_keep(rows, slots[r], slots[p]);
     if !first {
@@ -66,8 +66,8 @@ fn pair_keeps(
     a: usize,
     d: usize,
 ) -> bool
-    requires { (methods ≤ maxMethods) × (a < maxSheetTypes) × (d < maxSheetTypes) × ((i : ℕ) → get_or slots.now i 0 ≤ maxSheetTypes) }
-    ensures { result ≡ pairKeeps (has rows.now) slots.now methods a d }
+    requires { (methods ≤ max_methods) × (a < max_sheet_types) × (d < max_sheet_types) × ((i : ℕ) → get_or slots.now i 0 ≤ max_sheet_types) }
+    ensures { result ≡ pair_keeps (has rows.now) slots.now methods a d }
 {
     let mut j: usize = 0;
     while j < methods {
@@ -100,7 +100,7 @@ pub fn strike(
     a: usize,
     asked: u64,
 ) -> u64
-    requires { Laid methods slots.now × (a < maxSheetTypes) × ((s : ℕ) → So (bit_at asked s) → (s < maxSheetTypes) × So (has rows.now a s)) }
+    requires { Laid methods slots.now × (a < max_sheet_types) × ((s : ℕ) → So (bit_at asked s) → (s < max_sheet_types) × So (has rows.now a s)) }
     ensures rule { Struck slots.now rows.now a asked result }
     ensures slots { Sifted slots.now rows.now a asked result }
 {

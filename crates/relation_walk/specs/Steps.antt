@@ -1,13 +1,13 @@
 -- What each function of the walk promises, by the slots alone.
 use Rattle.std.specs.Prelude.{◌≡◌, Bool, false, ◌&&◌, ◌||◌, List, ◌⊎◌, ℕ, suc, ◌+◌, ◌≤◌, ◌<◌, length, get_or}
 use Rattle.std.proofs.Math.Bool.{So}
-use Rattle.spec_model.specs.Table.{Table, maxSheetTypes}
+use Rattle.spec_model.specs.Table.{Table, max_sheet_types}
 use Rattle.spec_model.specs.Relations.{Relation, rule, bit}
 use Rattle.base_bits.specs.Word.{bit_at}
-use Rattle.relation_rule.specs.Parts.{eachBelow}
-use Rattle.relation_slots.specs.Slots.{typeSlots, Roomy, Laid, Slots, Users, askedFirst, askedSecond, slotKeeps, SlotsKept}
+use Rattle.relation_rule.specs.Parts.{each_below}
+use Rattle.relation_slots.specs.Slots.{type_slots, Roomy, Laid, Slots, Users, asked_first, asked_second, slot_keeps, SlotsKept}
 use Rattle.relation_strike.specs.Step.{has, Doubted}
-use Rattle.relation_walk.specs.Walk.{sumBelow, asks}
+use Rattle.relation_walk.specs.Walk.{sum_below, asks}
 
 -- ---- doubt
 -- every number in the word is below n
@@ -27,19 +27,19 @@ pub record Gathered (words : List ℕ) (at numbers r : ℕ) : Type 0 where
 
 -- doubt on every pair of a type in `types` with one in `over`
 pub record Cast (types over : ℕ) (old new : List ℕ) : Type 0 where
-  pub size : length new ≡ maxSheetTypes
+  pub size : length new ≡ max_sheet_types
   pub are : (x s : ℕ) → has new x s ≡ (has old x s || (bit_at types x && bit_at over s))
 
 -- slot q of (x, s) asks for a pair (a, y) with y in `gone`
 pub record AsksGone (slots : List ℕ) (a gone x s q : ℕ) : Type 0 where
   pub other : ℕ
   pub there : So (bit_at gone other)
-  pub first : askedFirst slots x s q ≡ suc a
-  pub second : askedSecond slots x s q ≡ suc other
+  pub first : asked_first slots x s q ≡ suc a
+  pub second : asked_second slots x s q ≡ suc other
 
 -- doubt on the pairs that do so, and on no other
 pub record SpreadAt (slots : List ℕ) (a gone q : ℕ) (old new : List ℕ) : Type 0 where
-  pub size : length new ≡ maxSheetTypes
+  pub size : length new ≡ max_sheet_types
   pub more : (x s : ℕ) → So (has old x s) → So (has new x s)
   pub all : (x s : ℕ) → AsksGone slots a gone x s q → So (has new x s)
   pub only : (x s : ℕ) → So (has new x s) → So (has old x s) ⊎ AsksGone slots a gone x s q
@@ -51,7 +51,7 @@ pub record AsksSome (slots : List ℕ) (a gone m x s : ℕ) : Type 0 where
   pub asks : AsksGone slots a gone x s slot
 
 pub record Spread (slots : List ℕ) (a gone m : ℕ) (old new : List ℕ) : Type 0 where
-  pub size : length new ≡ maxSheetTypes
+  pub size : length new ≡ max_sheet_types
   pub more : (x s : ℕ) → So (has old x s) → So (has new x s)
   pub all : (x s : ℕ) → AsksSome slots a gone m x s → So (has new x s)
   pub only : (x s : ℕ) → So (has new x s) → So (has old x s) ⊎ AsksSome slots a gone m x s
@@ -59,11 +59,11 @@ pub record Spread (slots : List ℕ) (a gone m : ℕ) (old new : List ℕ) : Typ
 -- ---- rows
 -- What the walk of n types needs, and keeps.
 pub record Ready (n methods : ℕ) (slots users rows doubt : List ℕ) : Type 0 where
-  pub few : n ≤ maxSheetTypes
+  pub few : n ≤ max_sheet_types
   pub laid : Laid methods slots
   pub noted : Users slots users
-  pub rowsSize : length rows ≡ maxSheetTypes
-  pub doubtSize : length doubt ≡ maxSheetTypes
+  pub rows_size : length rows ≡ max_sheet_types
+  pub doubt_size : length doubt ≡ max_sheet_types
   pub inside : (x s : ℕ) → So (has rows x s) → (x < n) × (s < n)
 
 -- M is within the rows, and keeps every slot of its pairs.
@@ -80,20 +80,20 @@ pub record Going (slots old rows doubt : List ℕ) : Type 0 where
 
 -- What may still be asked: a pair that is set once, since it goes or loses its doubt; and once more if it is in doubt and keeps its slots, since doubt comes back
 -- only to a pair that does not keep them any more, and which goes when it is asked.
-unfoldable pub pairWork : List ℕ → List ℕ → List ℕ → ℕ → ℕ → ℕ
-unfolding eachBelow
-pairWork slots rows doubt x s = bit (has rows x s) + bit (has rows x s && (has doubt x s && eachBelow typeSlots (slotKeeps (has rows) slots x s)))
+unfoldable pub pair_work : List ℕ → List ℕ → List ℕ → ℕ → ℕ → ℕ
+unfolding each_below
+pair_work slots rows doubt x s = bit (has rows x s) + bit (has rows x s && (has doubt x s && each_below type_slots (slot_keeps (has rows) slots x s)))
 
-unfoldable pub workLeft : ℕ → List ℕ → List ℕ → List ℕ → ℕ
-unfolding sumBelow pairWork
-workLeft n slots rows doubt = sumBelow n (λ x. sumBelow n (λ s. pairWork slots rows doubt x s))
+unfoldable pub work_left : ℕ → List ℕ → List ℕ → List ℕ → ℕ
+unfolding sum_below pair_work
+work_left n slots rows doubt = sum_below n (λ x. sum_below n (λ s. pair_work slots rows doubt x s))
 
 -- A row taken: of every relation and table with these slots, whose rules are kept where nothing is in doubt, the pairs go that break their rule.
 pub record Taken (n : ℕ) (slots : List ℕ) (a : ℕ) (rows doubt rows' doubt' : List ℕ) : Type 0 where
   pub row : (k : Relation) (T : Table) → Roomy T → Slots T slots → Doubted k T rows a (get_or doubt a 0) → (s : ℕ) → has rows' a s ≡ (has rows a s && rule k T (has rows) a s)
   pub others : (x s : ℕ) → (x ≡ a → ⊥) → has rows' x s ≡ has rows x s
   pub going : (old : List ℕ) → Going slots old rows doubt → Going slots old rows' doubt'
-  pub work : workLeft n slots rows' doubt' + asks n rows doubt a ≤ workLeft n slots rows doubt
+  pub work : work_left n slots rows' doubt' + asks n rows doubt a ≤ work_left n slots rows doubt
 
 -- Rows taken one after another, in which r pairs were asked.
 pub data Taking (n : ℕ) (slots : List ℕ) : List ℕ → List ℕ → List ℕ → List ℕ → ℕ → Type 0 where
@@ -109,8 +109,8 @@ Quiet m rows doubt = (x s : ℕ) → x < m → So (has rows x s) → has doubt x
 pub record Passed (n methods : ℕ) (slots users : List ℕ) (m : ℕ) (rows doubt rows' doubt' : List ℕ) (r : ℕ) : Type 0 where
   pub ready : Ready n methods slots users rows' doubt'
   pub taking : Taking n slots rows doubt rows' doubt' r
-  pub rowsSame : r ≡ 0 → rows' ≡ rows
-  pub doubtSame : r ≡ 0 → doubt' ≡ doubt
+  pub rows_same : r ≡ 0 → rows' ≡ rows
+  pub doubt_same : r ≡ 0 → doubt' ≡ doubt
   pub quiet : r ≡ 0 → Quiet m rows doubt
 
 -- One row.
@@ -118,8 +118,8 @@ pub record RowTaken (n methods : ℕ) (slots users : List ℕ) (a : ℕ) (rows d
   pub ready : Ready n methods slots users rows' doubt'
   pub taken : Taken n slots a rows doubt rows' doubt'
   pub asked : r ≡ asks n rows doubt a
-  pub rowsSame : r ≡ 0 → rows' ≡ rows
-  pub doubtSame : r ≡ 0 → doubt' ≡ doubt
+  pub rows_same : r ≡ 0 → rows' ≡ rows
+  pub doubt_same : r ≡ 0 → doubt' ≡ doubt
   pub quiet : r ≡ 0 → (s : ℕ) → So (has rows a s) → has doubt a s ≡ false
 
 -- All of them.

@@ -16,14 +16,14 @@ pub record Step (k : Relation) (T : Table) (a : ℕ) (rows rows' : List ℕ) : T
   pub row : (s : ℕ) → has rows' a s ≡ (has rows a s && rule k T (has rows) a s)
   pub others : (x s : ℕ) → (x ≡ a → ⊥) → has rows' x s ≡ has rows x s
 
-unfoldable pub sumBelow : ℕ → (ℕ → ℕ) → ℕ
-sumBelow zero f = 0
-sumBelow (suc n) f = f 0 + sumBelow n (λ i. f (suc i))
+unfoldable pub sum_below : ℕ → (ℕ → ℕ) → ℕ
+sum_below zero f = 0
+sum_below (suc n) f = f 0 + sum_below n (λ i. f (suc i))
 
 -- how many pairs of row a are in doubt, and so asked when it is taken
 unfoldable pub asks : ℕ → List ℕ → List ℕ → ℕ → ℕ
-unfolding sumBelow
-asks n rows doubt a = sumBelow n (λ s. bit (has rows a s && has doubt a s))
+unfolding sum_below
+asks n rows doubt a = sum_below n (λ s. bit (has rows a s && has doubt a s))
 
 -- From some rows and doubt to others, by steps that ask r pairs in all.
 pub data Steps (k : Relation) (T : Table) : List ℕ → List ℕ → List ℕ → List ℕ → ℕ → Type 0 where

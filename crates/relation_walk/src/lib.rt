@@ -2,11 +2,11 @@
 // alone is set, and in doubt. To take a row is to take the step on it (crate `relation_strike`), and to cast doubt on the pairs that ask, in one of their slots, for
 // a pair that the step cleared. The walk ends with nothing in doubt, and asks no pair more than twice.
 ghost use Rattle.std.specs.Prelude.{◌≡◌, List, ℕ, ◌+◌, ◌≤◌, ◌<◌, length, get_or};
-ghost use Rattle.spec_model.specs.Table.{maxMethods, maxSheetTypes};
-ghost use Rattle.table_record.specs.Store.{tableIn};
+ghost use Rattle.spec_model.specs.Table.{max_methods, max_sheet_types};
+ghost use Rattle.table_record.specs.Store.{table_in};
 ghost use Rattle.table_record.specs.Limits.{Checked};
-ghost use Rattle.relation_states.specs.Asked.{relationOf};
-ghost use Rattle.relation_slots.specs.Slots.{typeSlots, sheetSlots, Laid, Slots, Users, Roomy};
+ghost use Rattle.relation_states.specs.Asked.{relation_of};
+ghost use Rattle.relation_slots.specs.Slots.{type_slots, sheet_slots, Laid, Slots, Users, Roomy};
 ghost use Rattle.relation_walk.specs.Walk.{Walked};
 ghost use Rattle.relation_walk.specs.Steps.{Below, Gathered, Cast, SpreadAt, Spread, Ready, RowTaken, Passed, Settled};
 
@@ -16,7 +16,7 @@ use table_record::{Counts, LINK_BYTES, TYPE_BYTES};
 
 // The words from `at` on of all numbers in a set, together.
 fn gather(words: &[u64; SHEET_SLOTS], at: usize, numbers: u64) -> u64
-    requires { (at + maxSheetTypes ≤ sheetSlots) × Below maxSheetTypes numbers }
+    requires { (at + max_sheet_types ≤ sheet_slots) × Below max_sheet_types numbers }
     ensures { Gathered words.now at numbers result }
 {
     let mut r: u64 = 0;
@@ -31,7 +31,7 @@ fn gather(words: &[u64; SHEET_SLOTS], at: usize, numbers: u64) -> u64
 
 // Doubt on every pair of a type in `types` with one in `over`.
 fn cast(doubt: &mut [u64; Counts::SHEET_TYPES], types: u64, over: u64)
-    requires { (length doubt.old ≡ maxSheetTypes) × Below maxSheetTypes types }
+    requires { (length doubt.old ≡ max_sheet_types) × Below max_sheet_types types }
     ensures { Cast types over doubt.old doubt.new }
 {
     let mut left = types;
@@ -51,7 +51,7 @@ fn spread_at(
     gone: u64,
     q: usize,
 )
-    requires { (length doubt.old ≡ maxSheetTypes) × (a < maxSheetTypes) × (q < typeSlots) × Below maxSheetTypes gone × ((p : ℕ) → Below maxSheetTypes (get_or users.now p 0)) }
+    requires { (length doubt.old ≡ max_sheet_types) × (a < max_sheet_types) × (q < type_slots) × Below max_sheet_types gone × ((p : ℕ) → Below max_sheet_types (get_or users.now p 0)) }
     ensures { (slots : List ℕ) → Users slots users.now → SpreadAt slots a gone q doubt.old doubt.new }
 {
     let at = q * Counts::SHEET_TYPES;
@@ -75,8 +75,8 @@ fn spread(
     a: usize,
     gone: u64,
 )
-    requires { (length doubt.old ≡ maxSheetTypes) × (a < maxSheetTypes) × (methods ≤ maxMethods) × Below maxSheetTypes gone × ((p : ℕ) → Below maxSheetTypes (get_or users.now p 0)) }
-    ensures { (slots : List ℕ) → Laid methods slots → Users slots users.now → Spread slots a gone typeSlots doubt.old doubt.new }
+    requires { (length doubt.old ≡ max_sheet_types) × (a < max_sheet_types) × (methods ≤ max_methods) × Below max_sheet_types gone × ((p : ℕ) → Below max_sheet_types (get_or users.now p 0)) }
+    ensures { (slots : List ℕ) → Laid methods slots → Users slots users.now → Spread slots a gone type_slots doubt.old doubt.new }
 {
     let all = methods * METHOD_SLOTS;
     let mut q: usize = 0;
@@ -169,8 +169,8 @@ pub fn rows_of(
     k: Relation,
     rows: &mut [u64; Counts::SHEET_TYPES],
 ) -> usize
-    requires { Checked l.now c × Roomy (tableIn b.now l.now c) × Slots (tableIn b.now l.now c) slots.now × Users slots.now users.now }
-    ensures { Walked (relationOf k) (tableIn b.now l.now c) rows.new result }
+    requires { Checked l.now c × Roomy (table_in b.now l.now c) × Slots (table_in b.now l.now c) slots.now × Users slots.now users.now }
+    ensures { Walked (relation_of k) (table_in b.now l.now c) rows.new result }
 {
     let alone = relation_alone::rows_alone(b, l, c, k);
     let mut doubt = alone;

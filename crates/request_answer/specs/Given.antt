@@ -4,9 +4,9 @@ use Rattle.std.proofs.Math.Option.{Option, none, some}
 use Rattle.request_answer.specs.declared.Given.{Given}
 use Rattle.request_answer.specs.declared.Given.TheVariants.{Value, Nothing}
 
-abbrev pub givenAs : Given → Option ℤ
-givenAs (Value v) = some v
-givenAs Nothing = none
+abbrev pub given_as : Given → Option ℤ
+given_as (Value v) = some v
+given_as Nothing = none
 
 -- where nothing is given every byte of the types stays, whatever comes of it
 abbrev pub Keeps : Given → List ℕ → List ℕ → Type 0

@@ -1,15 +1,15 @@
 // The request answer as a step on a sound state (A1 to A13). A refusal gives back the state that was handed in.
 ghost use Rattle.std.specs.Prelude.{◌≡◌, List, true, ℕ, ◌≤◌, ◌<◌, ℤ};
 ghost use Rattle.spec_model.specs.Basics.{ok, named};
-ghost use Rattle.spec_model.specs.Requests.{Result, got, dueFor, answersMet, give, withAnswer, answerRequest, maxCalls};
+ghost use Rattle.spec_model.specs.Requests.{Result, got, due_for, answers_met, give, with_answer, answer_request, max_calls};
 ghost use Rattle.state_record.specs.Whole.{whole};
-ghost use Rattle.state_record.specs.View.{systemIn};
+ghost use Rattle.state_record.specs.View.{system_in};
 ghost use Rattle.state_record.specs.Sound.{Sound};
-ghost use Rattle.crossing_targets.specs.Targets.{targetsIn, maxLayers};
-ghost use Rattle.request_common.specs.Served.{outcomeOf, Step, done};
-ghost use Rattle.request_common.specs.Back.{isAccepted};
-ghost use Rattle.request_answer.specs.Given.{givenAs, Keeps};
-ghost use Rattle.request_answer.specs.Parts.{giveReference, giveValue, answerCall, Called};
+ghost use Rattle.crossing_targets.specs.Targets.{targets_in, max_layers};
+ghost use Rattle.request_common.specs.Served.{outcome_of, Step, done};
+ghost use Rattle.request_common.specs.Back.{is_accepted};
+ghost use Rattle.request_answer.specs.Given.{given_as, Keeps};
+ghost use Rattle.request_answer.specs.Parts.{give_reference, give_value, answer_call, Called};
 
 use base_numbers::{index_of, refusal, wide};
 use crossing_targets::{Slot, Targets};
@@ -26,9 +26,9 @@ pub enum Given {
 
 // Call j is answered (A11), and the request with it (A12).
 fn answered(s: State, j: usize, outcome: Outcome) -> Served
-    requires { (j < s.calls.count) × (s.calls.count ≤ maxCalls) × (isAccepted outcome ≡ true) }
-    ensures { (b : List ℕ) → Sound (whole b s) → (x : Result) → outcomeOf outcome ≡ got x
-        → Step (whole b s) (ok (withAnswer (systemIn (whole b s)) j, x)) (done b result) }
+    requires { (j < s.calls.count) × (s.calls.count ≤ max_calls) × (is_accepted outcome ≡ true) }
+    ensures { (b : List ℕ) → Sound (whole b s) → (x : Result) → outcome_of outcome ≡ got x
+        → Step (whole b s) (ok (with_answer (system_in (whole b s)) j, x)) (done b result) }
 {
     let calls = s.calls.answered(j);
     let state = s.with_calls(calls);
@@ -38,7 +38,7 @@ fn answered(s: State, j: usize, outcome: Outcome) -> Served
 // The answer types of the layers, from the class's outward (A7).
 fn answers_met(types: &[u8; TYPE_BYTES], s: State, j: usize, x: Call, c: Cell) -> Targets
     requires { Sound (whole types.now s) × Called (whole types.now s) j x c }
-    ensures { (targetsIn result ≡ answersMet (systemIn (whole types.now s)) j) × (result.count ≤ maxLayers) }
+    ensures { (targets_in result ≡ answers_met (system_in (whole types.now s)) j) × (result.count ≤ max_layers) }
 {
     let ps = s.places;
     let counts = s.counts;
@@ -63,8 +63,8 @@ fn give_reference(
     targets: Targets,
 ) -> Served
     requires { Sound (whole types.old s) × (j < s.calls.count) × (0 < s.places.count) × (0 < s.counts.types) × (r < 256)
-        × (targets.count ≤ maxLayers) }
-    ensures { Step (whole types.old s) (giveReference (systemIn (whole types.old s)) j r v (targetsIn targets))
+        × (targets.count ≤ max_layers) }
+    ensures { Step (whole types.old s) (give_reference (system_in (whole types.old s)) j r v (targets_in targets))
         (done types.new result) }
 {
     let q = request_value::send(types, s, r, v, targets);
@@ -88,7 +88,7 @@ fn give_value(
 ) -> Served
     requires { Sound (whole types.old s) × Called (whole types.old s) j x c }
     ensures { (subject : ℤ) → named subject ≡ who
-        → Step (whole types.old s) (giveValue (systemIn (whole types.old s)) subject j a v) (done types.new result) }
+        → Step (whole types.old s) (give_value (system_in (whole types.old s)) subject j a v) (done types.new result) }
 {
     let counts = s.counts;
     let cells = s.cells;
@@ -120,7 +120,7 @@ fn give(
     requires { Sound (whole types.old s) × Called (whole types.old s) j x c }
     ensures { ((subject : ℤ) → named subject ≡ who
         → Step (whole types.old s)
-        (give (systemIn (whole types.old s)) subject j (dueFor (systemIn (whole types.old s)) j) (givenAs given))
+        (give (system_in (whole types.old s)) subject j (due_for (system_in (whole types.old s)) j) (given_as given))
         (done types.new result))
         × Keeps given types.old types.new }
 {
@@ -146,7 +146,7 @@ fn give(
 fn answer_call(types: &mut [u8; TYPE_BYTES], s: State, who: usize, j: usize, given: Given) -> Served
     requires { Sound (whole types.old s) × (j < s.calls.count) }
     ensures { ((subject : ℤ) → named subject ≡ who
-        → Step (whole types.old s) (answerCall (systemIn (whole types.old s)) subject j (givenAs given)) (done types.new result))
+        → Step (whole types.old s) (answer_call (system_in (whole types.old s)) subject j (given_as given)) (done types.new result))
         × Keeps given types.old types.new }
 {
     let x = state_record::call_at(s.calls, j);
@@ -171,7 +171,7 @@ pub fn answer_step(
     given: Given,
 ) -> Served
     requires { Sound (whole types.old s) }
-    ensures { Step (whole types.old s) (answerRequest (systemIn (whole types.old s)) subject call (givenAs given))
+    ensures { Step (whole types.old s) (answer_request (system_in (whole types.old s)) subject call (given_as given))
         (done types.new result)
         × Keeps given types.old types.new }
 {

@@ -5,7 +5,7 @@ use Rattle.spec_model.specs.Requests.{System, Request, Result, serve}
 use Rattle.spec_model.specs.Refusals.{form}
 
 -- What is no request is refused with 1 (U6, P11).
-unfoldable pub serveAsked : System → Option Request → Res (System × Result)
+unfoldable pub serve_asked : System → Option Request → Res (System × Result)
 unfolding serve
-serveAsked s none = refuse form
-serveAsked s (some q) = serve s q
+serve_asked s none = refuse form
+serve_asked s (some q) = serve s q

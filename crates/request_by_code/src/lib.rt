@@ -1,11 +1,11 @@
 // A request by its code and operands (U2 to U6), which the run's words, the script's lines and the C functions of single requests come down to. What it comes
-// to is the definition `serveAsked` in specs/Coded.antt.
+// to is the definition `serve_asked` in specs/Coded.antt.
 ghost use Rattle.state_record.specs.Whole.{whole};
-ghost use Rattle.state_record.specs.View.{systemIn};
+ghost use Rattle.state_record.specs.View.{system_in};
 ghost use Rattle.state_record.specs.Sound.{Sound};
 ghost use Rattle.request_common.specs.Served.{Step, done};
-ghost use Rattle.spec_model.specs.Coded.{byCode};
-ghost use Rattle.request_by_code.specs.Coded.{serveAsked};
+ghost use Rattle.spec_model.specs.Coded.{by_code};
+ghost use Rattle.request_by_code.specs.Coded.{serve_asked};
 
 use base_numbers::refusal;
 use request_answer::Given;
@@ -17,7 +17,7 @@ use table_record::TYPE_BYTES;
 // New: three operands (U3).
 fn serve_new(types: &mut [u8; TYPE_BYTES], s: State, ops: &[i64]) -> Served
     requires { Sound (whole types.old s) }
-    ensures { Step (whole types.old s) (serveAsked (systemIn (whole types.old s)) (byCode 0 ops.now))
+    ensures { Step (whole types.old s) (serve_asked (system_in (whole types.old s)) (by_code 0 ops.now))
         (done types.new result) }
 {
     if ops.len() != 3 {
@@ -29,7 +29,7 @@ fn serve_new(types: &mut [u8; TYPE_BYTES], s: State, ops: &[i64]) -> Served
 // Move: four (U3).
 fn serve_move(types: &mut [u8; TYPE_BYTES], s: State, ops: &[i64]) -> Served
     requires { Sound (whole types.old s) }
-    ensures { Step (whole types.old s) (serveAsked (systemIn (whole types.old s)) (byCode 1 ops.now))
+    ensures { Step (whole types.old s) (serve_asked (system_in (whole types.old s)) (by_code 1 ops.now))
         (done types.new result) }
 {
     if ops.len() != 4 {
@@ -42,7 +42,7 @@ fn serve_move(types: &mut [u8; TYPE_BYTES], s: State, ops: &[i64]) -> Served
 // call, the largest of the four requests', would be taken by every other request too.
 fn serve_call(types: &mut [u8; TYPE_BYTES], s: State, ops: &[i64]) -> Served
     requires { Sound (whole types.old s) }
-    ensures { Step (whole types.old s) (serveAsked (systemIn (whole types.old s)) (byCode 2 ops.now))
+    ensures { Step (whole types.old s) (serve_asked (system_in (whole types.old s)) (by_code 2 ops.now))
         (done types.new result) }
 {
     if ops.len() < 3 {
@@ -57,7 +57,7 @@ fn serve_call(types: &mut [u8; TYPE_BYTES], s: State, ops: &[i64]) -> Served
 // Answer: two operands and a value, or nothing (U5).
 fn serve_answer(types: &mut [u8; TYPE_BYTES], s: State, ops: &[i64]) -> Served
     requires { Sound (whole types.old s) }
-    ensures { Step (whole types.old s) (serveAsked (systemIn (whole types.old s)) (byCode 3 ops.now))
+    ensures { Step (whole types.old s) (serve_asked (system_in (whole types.old s)) (by_code 3 ops.now))
         (done types.new result) }
 {
     if ops.len() == 2 {
@@ -73,7 +73,7 @@ fn serve_answer(types: &mut [u8; TYPE_BYTES], s: State, ops: &[i64]) -> Served
 // The request of a code and its operands: 1 where there is none such (U6). Every request is served by it.
 pub fn serve_coded(types: &mut [u8; TYPE_BYTES], s: State, k: usize, ops: &[i64]) -> Served
     requires { Sound (whole types.old s) }
-    ensures { Step (whole types.old s) (serveAsked (systemIn (whole types.old s)) (byCode k ops.now))
+    ensures { Step (whole types.old s) (serve_asked (system_in (whole types.old s)) (by_code k ops.now))
         (done types.new result) }
 {
     if k == NEW {

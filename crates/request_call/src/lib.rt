@@ -2,17 +2,17 @@
 // (C20).
 ghost use Rattle.std.specs.Prelude.{◌≡◌, not, ◌||◌, List, ℕ, ◌≤◌, ◌<◌, ℤ, get_or};
 ghost use Rattle.spec_model.specs.Basics.{ok, named};
-ghost use Rattle.spec_model.specs.Table.{type_at, methodAt, isRef};
-ghost use Rattle.spec_model.specs.Check.{methodOf};
-ghost use Rattle.spec_model.specs.Requests.{noCell, pair, held, argumentsHeld, withCall, callRequest, maxCalls, madeBy};
-ghost use Rattle.table_record.specs.Store.{tableIn, rawMethod};
+ghost use Rattle.spec_model.specs.Table.{type_at, method_at, is_ref};
+ghost use Rattle.spec_model.specs.Check.{method_of};
+ghost use Rattle.spec_model.specs.Requests.{no_cell, pair, held, arguments_held, with_call, call_request, max_calls, made_by};
+ghost use Rattle.table_record.specs.Store.{table_in, raw_method};
 ghost use Rattle.table_record.specs.Limits.{Limits};
 ghost use Rattle.state_record.specs.Whole.{whole};
-ghost use Rattle.state_record.specs.View.{cell_of, cells_in, callsIn, systemIn};
+ghost use Rattle.state_record.specs.View.{cell_of, cells_in, calls_in, system_in};
 ghost use Rattle.state_record.specs.Sound.{MayCall, Sound};
 ghost use Rattle.request_common.specs.Served.{Step, done};
-ghost use Rattle.request_value.specs.Sent.{argumentsOf};
-ghost use Rattle.request_call.specs.Called.{newCall, callThrough, callHeld, Planned};
+ghost use Rattle.request_value.specs.Sent.{arguments_of};
+ghost use Rattle.request_call.specs.Called.{new_call, call_through, call_held, Planned};
 
 use base_numbers::{index_of, narrow, refusal, wide};
 use request_common::{Outcome, Served};
@@ -23,7 +23,7 @@ use table_record::{Counts, Head, Method, TYPE_BYTES};
 // Method m of type t; a number type has none (T19).
 fn method_at(types: &[u8; TYPE_BYTES], c: Counts, t: usize, m: usize) -> Method
     requires { Limits c × (t < c.types) × (m < c.methods) }
-    ensures { (l : List ℕ) → methodOf (rawMethod result) ≡ methodAt (tableIn types.now l c) t m }
+    ensures { (l : List ℕ) → method_of (raw_method result) ≡ method_at (table_in types.now l c) t m }
 {
     let h = table_record::get_head(types, t);
     if h.rep != Head::REF {
@@ -36,7 +36,7 @@ fn method_at(types: &[u8; TYPE_BYTES], c: Counts, t: usize, m: usize) -> Method
 fn argument_held(types: &[u8; TYPE_BYTES], s: State, who: usize, a: usize, v: i64) -> bool
     requires { Sound (whole types.now s) }
     ensures { (subject : ℤ) → named subject ≡ who
-        → result ≡ not (isRef (type_at (systemIn (whole types.now s)).table a).rep) || held (systemIn (whole types.now s)) subject v }
+        → result ≡ not (is_ref (type_at (system_in (whole types.now s)).table a).rep) || held (system_in (whole types.now s)) subject v }
 {
     let c = s.counts;
     let cs = s.cells;
@@ -50,7 +50,7 @@ fn argument_held(types: &[u8; TYPE_BYTES], s: State, who: usize, a: usize, v: i6
 fn arguments_held(types: &[u8; TYPE_BYTES], s: State, who: usize, x: Method, vs: &[i64]) -> bool
     requires { Sound (whole types.now s) }
     ensures { (subject : ℤ) → named subject ≡ who
-        → result ≡ argumentsHeld (systemIn (whole types.now s)) subject (argumentsOf x) vs.now }
+        → result ≡ arguments_held (system_in (whole types.now s)) subject (arguments_of x) vs.now }
 {
     let n = vs.len();
     let mut i: usize = 0;
@@ -69,8 +69,8 @@ fn arguments_held(types: &[u8; TYPE_BYTES], s: State, who: usize, x: Method, vs:
 
 // How many of the calls are this subject's (C7).
 fn made_by(js: Calls, who: usize) -> usize
-    requires { js.count ≤ maxCalls }
-    ensures { result ≡ madeBy who (callsIn js) }
+    requires { js.count ≤ max_calls }
+    ensures { result ≡ made_by who (calls_in js) }
 {
     let n = js.count;
     let mut made: usize = 0;
@@ -86,9 +86,9 @@ fn made_by(js: Calls, who: usize) -> usize
 
 // One more call (C18), and its answer (C19).
 pub fn add_call(s: State, who: usize, k: usize, m: usize, adapters: usize) -> Served
-    requires { (s.calls.count < maxCalls) × (who < 256) × (k < 256) × (m < 256) }
+    requires { (s.calls.count < max_calls) × (who < 256) × (k < 256) × (m < 256) }
     ensures { (b : List ℕ) → Sound (whole b s) → MayCall (whole b s) who → k < s.cells.count → m < s.counts.methods
-        → Step (whole b s) (ok (withCall (systemIn (whole b s)) (newCall who k m), pair s.calls.count adapters)) (done b result) }
+        → Step (whole b s) (ok (with_call (system_in (whole b s)) (new_call who k m), pair s.calls.count adapters)) (done b result) }
 {
     let first = s.calls.count;
     let c = Call {
@@ -119,7 +119,7 @@ fn call_through(
     vs: &[i64],
 ) -> Served
     requires { Sound (whole types.old s) × MayCall (whole types.old s) who × (who < 256) × (k < s.cells.count) × (m < s.counts.methods) }
-    ensures { Step (whole types.old s) (callThrough (systemIn (whole types.old s)) who k m (argumentsOf x) vs.now)
+    ensures { Step (whole types.old s) (call_through (system_in (whole types.old s)) who k m (arguments_of x) vs.now)
         (done types.new result) }
 {
     let c = state_record::cell_at(s.cells, k);
@@ -183,9 +183,9 @@ fn plan_numbers(
     vs: &[i64],
 ) -> Plan
     requires { Sound (whole types.now s) × MayCall (whole types.now s) who × (who < 256) × (k < s.cells.count) × (m < s.counts.methods)
-        × (cell_of c ≡ get_or (cells_in s.cells) k noCell) }
+        × (cell_of c ≡ get_or (cells_in s.cells) k no_cell) }
     ensures { Planned (whole types.now s) vs.now
-        (callThrough (systemIn (whole types.now s)) who k m (argumentsOf x) vs.now) result }
+        (call_through (system_in (whole types.now s)) who k m (arguments_of x) vs.now) result }
 {
     let counts = s.counts;
     let ps = s.places;
@@ -220,7 +220,7 @@ fn plan_numbers(
 fn plan_held(types: &[u8; TYPE_BYTES], s: State, who: usize, k: usize, m: usize, vs: &[i64]) -> Plan
     requires { Sound (whole types.now s) × (who < s.counts.subjects) × (k < s.cells.count) × (m < s.counts.methods) }
     ensures { (subject : ℤ) → named subject ≡ who
-        → Planned (whole types.now s) vs.now (callHeld (systemIn (whole types.now s)) subject k m vs.now) result }
+        → Planned (whole types.now s) vs.now (call_held (system_in (whole types.now s)) subject k m vs.now) result }
 {
     let c = state_record::cell_at(s.cells, k);
     let counts = s.counts;
@@ -248,7 +248,7 @@ pub fn plan_call(
 ) -> Plan
     requires { Sound (whole types.now s) }
     ensures { Planned (whole types.now s) arguments.now
-        (callRequest (systemIn (whole types.now s)) subject cell method arguments.now) result }
+        (call_request (system_in (whole types.now s)) subject cell method arguments.now) result }
 {
     let counts = s.counts;
     let cells = s.cells;
@@ -278,7 +278,7 @@ pub fn call_step(
 ) -> Served
     requires { Sound (whole types.old s) }
     ensures { Step (whole types.old s)
-        (callRequest (systemIn (whole types.old s)) subject cell method arguments.now) (done types.new result) }
+        (call_request (system_in (whole types.old s)) subject cell method arguments.now) (done types.new result) }
 {
     let p = plan_call(types, s, subject, cell, method, arguments);
     if p.refusal != 0 {

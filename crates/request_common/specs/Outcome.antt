@@ -8,11 +8,11 @@ use Rattle.request_common.specs.declared.Outcome.TheVariants.{Refused, Pair, Num
 use Rattle.request_common.specs.declared.Served.{Served}
 
 -- the number of the refusal, or the values, for each case
-abbrev pub outcomeOf : Outcome → Outcomeᵐ
-outcomeOf (Refused e) = refused e
-outcomeOf (Pair a b) = got (pair a b)
-outcomeOf (Number v) = got (number v)
-outcomeOf Nothing = got nothing
+abbrev pub outcome_of : Outcome → Outcomeᵐ
+outcome_of (Refused e) = refused e
+outcome_of (Pair a b) = got (pair a b)
+outcome_of (Number v) = got (number v)
+outcome_of Nothing = got nothing
 
 -- an outcome with the whole state that is left: the types as they are now, and the rest that comes back
 pub record Done : Type 0 where
@@ -23,5 +23,5 @@ abbrev pub done : List ℕ → Served → Done
 done b r = record { outcome = r.outcome; state = whole b r.state }
 
 -- a refusal, with the whole state as it was handed in
-abbrev pub refusalOf : State → ℕ → Done
-refusalOf s e = record { outcome = Refused e; state = s }
+abbrev pub refusal_of : State → ℕ → Done
+refusal_of s e = record { outcome = Refused e; state = s }

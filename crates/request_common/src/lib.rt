@@ -2,13 +2,13 @@
 // cell. A state goes in by value and comes out by value: where a request is refused, it is the one that went in.
 ghost use Rattle.std.specs.Prelude.{◌≡◌, List, ℕ, ◌≤◌, ◌<◌, ℤ, length};
 ghost use Rattle.spec_model.specs.Basics.{names, named};
-ghost use Rattle.spec_model.specs.Requests.{addCell, held, isSheetRef, maxCells};
-ghost use Rattle.table_record.specs.Layout.{typesSize};
+ghost use Rattle.spec_model.specs.Requests.{add_cell, held, is_sheet_ref, max_cells};
+ghost use Rattle.table_record.specs.Layout.{types_size};
 ghost use Rattle.table_record.specs.Limits.{Limits};
 ghost use Rattle.state_record.specs.Whole.{Whole, whole};
-ghost use Rattle.state_record.specs.View.{systemIn};
-ghost use Rattle.request_common.specs.Back.{isAccepted, givenBack};
-ghost use Rattle.request_common.specs.Served.{refusal, Step, done, Arrives, arrived, isSheetClass};
+ghost use Rattle.state_record.specs.View.{system_in};
+ghost use Rattle.request_common.specs.Back.{is_accepted, given_back};
+ghost use Rattle.request_common.specs.Served.{refusal, Step, done, Arrives, arrived, is_sheet_class};
 
 use base_numbers::{index_of, narrow, refusal, wide};
 use state_record::{Cell, Cells, Places, State};
@@ -41,7 +41,7 @@ pub fn refused(s: State, number: usize) -> Served
 
 // Whether a request was accepted.
 pub fn accepted(a: Outcome) -> bool
-    ensures { result ≡ isAccepted a }
+    ensures { result ≡ is_accepted a }
 {
     match a {
         Outcome::Refused(_) => false,
@@ -56,14 +56,14 @@ pub fn accepted(a: Outcome) -> bool
 
 // A copy of lent bytes. Bytes that are held have their length, of lent ones nothing says it.
 pub fn copied(b: [u8; TYPE_BYTES]) -> [u8; TYPE_BYTES]
-    ensures { (result ≡ b) × (length b ≡ typesSize) }
+    ensures { (result ≡ b) × (length b ≡ types_size) }
 {
     b
 }
 
 // Where a request was refused, the types are given back, every byte (Q14).
 pub fn give_back(types: &mut [u8; TYPE_BYTES], old: &[u8; TYPE_BYTES], a: Outcome)
-    ensures { types.new ≡ givenBack old.now types.old a }
+    ensures { types.new ≡ given_back old.now types.old a }
 {
     if accepted(a) {
         return;
@@ -82,7 +82,7 @@ pub fn add_cell(
 ) -> Served
     requires { (holder < 256) × (ty < 256) × (place < 256) }
     ensures { (b t : List ℕ) → Arrives (whole b s) t count places ty place
-        → Step (whole b s) (addCell (systemIn (whole b s)) holder (arrived (whole b s) t count places ty place)) (done t result) }
+        → Step (whole b s) (add_cell (system_in (whole b s)) holder (arrived (whole b s) t count places ty place)) (done t result) }
 {
     if State::CELLS <= s.cells.count {
         return refused(s, refusal::CELLS_FULL);
@@ -115,7 +115,7 @@ pub fn add_cell(
 
 // Whether z names a subject (N1, M1, C1, A1).
 pub fn is_subject(c: Counts, z: i64) -> bool
-    ensures { (s : Whole) → s.counts ≡ c → result ≡ names z (systemIn s).table.subjects }
+    ensures { (s : Whole) → s.counts ≡ c → result ≡ names z (system_in s).table.subjects }
 {
     let i = index_of(z, c.subjects);
     i < c.subjects
@@ -123,8 +123,8 @@ pub fn is_subject(c: Counts, z: i64) -> bool
 
 // Whether k is the number of a cell that `who` holds (M2, C2, C5, A6).
 pub fn is_held(cs: Cells, who: usize, k: i64) -> bool
-    requires { cs.count ≤ maxCells }
-    ensures { (s : Whole) (subject : ℤ) → s.cells ≡ cs → named subject ≡ who → result ≡ held (systemIn s) subject k }
+    requires { cs.count ≤ max_cells }
+    ensures { (s : Whole) (subject : ℤ) → s.cells ≡ cs → named subject ≡ who → result ≡ held (system_in s) subject k }
 {
     let i = index_of(k, cs.count);
     if cs.count <= i {
@@ -137,7 +137,7 @@ pub fn is_held(cs: Cells, who: usize, k: i64) -> bool
 // Whether z is the number of a sheet ref type (N3, M3).
 pub fn is_sheet_ref(types: &[u8; TYPE_BYTES], c: Counts, z: i64) -> bool
     requires { Limits c }
-    ensures { (s : Whole) → s.types ≡ types.now → s.counts ≡ c → result ≡ isSheetRef (systemIn s).table z }
+    ensures { (s : Whole) → s.types ≡ types.now → s.counts ≡ c → result ≡ is_sheet_ref (system_in s).table z }
 {
     let i = index_of(z, c.sheet);
     if c.sheet <= i {
@@ -149,7 +149,7 @@ pub fn is_sheet_ref(types: &[u8; TYPE_BYTES], c: Counts, z: i64) -> bool
 // Whether z is the number of a sheet class (N2).
 pub fn is_sheet_class(types: &[u8; TYPE_BYTES], c: Counts, z: i64) -> bool
     requires { Limits c }
-    ensures { (s : Whole) → s.types ≡ types.now → s.counts ≡ c → result ≡ isSheetClass (systemIn s).table z }
+    ensures { (s : Whole) → s.types ≡ types.now → s.counts ≡ c → result ≡ is_sheet_class (system_in s).table z }
 {
     let i = index_of(z, c.sheet);
     if c.sheet <= i {

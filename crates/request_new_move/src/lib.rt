@@ -2,13 +2,13 @@
 // crosses, and what came of it becomes a cell. A refusal gives back the state that was handed in; of the types that are lent, those that were counted are as
 // they were (Q14).
 ghost use Rattle.std.specs.Prelude.{◌≡◌, ◌<◌};
-ghost use Rattle.spec_model.specs.Requests.{newRequest, moveRequest};
-ghost use Rattle.spec_model.specs.Crossing.{maxPlaces};
+ghost use Rattle.spec_model.specs.Requests.{new_request, move_request};
+ghost use Rattle.spec_model.specs.Crossing.{max_places};
 ghost use Rattle.state_record.specs.Whole.{whole};
-ghost use Rattle.state_record.specs.View.{systemIn};
+ghost use Rattle.state_record.specs.View.{system_in};
 ghost use Rattle.state_record.specs.Sound.{Descending, Sound};
 ghost use Rattle.request_common.specs.Served.{Step, done};
-ghost use Rattle.request_new_move.specs.Sent.{sentTo, Sends, Made};
+ghost use Rattle.request_new_move.specs.Sent.{sent_to, Sends, Made};
 
 use base_numbers::{index_of, narrow, refusal, wide};
 use crossing_one::Crossing;
@@ -19,7 +19,7 @@ use table_record::TYPE_BYTES;
 // What crosses to a place of `ps` becomes a cell of its receiver (N6 to N8, M4 to M6).
 fn send(types: &mut [u8; TYPE_BYTES], s: State, ps: Places, x: Crossing) -> Served
     requires { Sends (whole types.old s) ps x }
-    ensures { Step (whole types.old s) (sentTo (whole types.old s) ps x) (done types.new result) }
+    ensures { Step (whole types.old s) (sent_to (whole types.old s) ps x) (done types.new result) }
 {
     let links = s.links;
     let y = crossing_one::cross(types, &links, s.counts, ps, x);
@@ -32,7 +32,7 @@ fn send(types: &mut [u8; TYPE_BYTES], s: State, ps: Places, x: Crossing) -> Serv
 
 // An object of the class, owned by the subject, is the next place (N5).
 fn make(ps: Places, class: usize, owner: usize) -> Places
-    requires { Descending ps × (ps.count < maxPlaces) × (class < 256) × (owner < 256) }
+    requires { Descending ps × (ps.count < max_places) × (class < 256) × (owner < 256) }
     ensures { Made ps class owner result }
 {
     let place = Place::Object {
@@ -45,7 +45,7 @@ fn make(ps: Places, class: usize, owner: usize) -> Places
 // New (N): an object of a sheet class, and a cell of the subject that refers to it.
 pub fn new_step(types: &mut [u8; TYPE_BYTES], s: State, subject: i64, class: i64, to: i64) -> Served
     requires { Sound (whole types.old s) }
-    ensures { Step (whole types.old s) (newRequest (systemIn (whole types.old s)) subject class to)
+    ensures { Step (whole types.old s) (new_request (system_in (whole types.old s)) subject class to)
         (done types.new result) }
 {
     let c = s.counts;
@@ -85,7 +85,7 @@ pub fn move_step(
     to: i64,
 ) -> Served
     requires { Sound (whole types.old s) }
-    ensures { Step (whole types.old s) (moveRequest (systemIn (whole types.old s)) subject cell receiver to)
+    ensures { Step (whole types.old s) (move_request (system_in (whole types.old s)) subject cell receiver to)
         (done types.new result) }
 {
     let c = s.counts;

@@ -3,6 +3,6 @@ use Rattle.std.proofs.Math.Option.{Option, none, some}
 use Rattle.std.specs.Prelude.{ℕ, zero, suc, ℤ}
 
 -- what is given as an answer: nothing for 0, else the value
-abbrev pub givenIn : ℕ → ℤ → Option ℤ
-givenIn zero v = none
-givenIn (suc n) v = some v
+abbrev pub given_in : ℕ → ℤ → Option ℤ
+given_in zero v = none
+given_in (suc n) v = some v

@@ -1,6 +1,6 @@
 // The codes of the requests and their operands (U3 to U5), as the C functions of single requests list them.
 ghost use Rattle.std.specs.Prelude.{◌≡◌, true};
-ghost use Rattle.request_operands.specs.Operands.{answerOperands, callOperands, Listed};
+ghost use Rattle.request_operands.specs.Operands.{answer_operands, call_operands, Listed};
 
 use table_record::Counts;
 
@@ -29,7 +29,7 @@ pub struct Operands {
 
 // The operands of a call. A list of arguments that is longer than any signature is cut behind one too many, and refused with 15 as it would be whole (C4).
 pub fn call_operands(subject: i64, cell: i64, method: i64, arguments: &[i64]) -> Operands
-    ensures { Listed (callOperands subject cell method arguments.now) result }
+    ensures { Listed (call_operands subject cell method arguments.now) result }
 {
     let mut items = [0i64; OPERANDS];
     items[0] = subject;
@@ -54,7 +54,7 @@ pub fn call_operands(subject: i64, cell: i64, method: i64, arguments: &[i64]) ->
 
 // How many operands an answer has: a third where a value is given (U5).
 pub fn answer_count(given: usize) -> usize
-    ensures { result ≡ answerOperands given }
+    ensures { result ≡ answer_operands given }
 {
     if given == 0 {
         return 2;

@@ -6,19 +6,19 @@ use Prim.Native.Nat.{ℕ, ◌<◌}
 use native.Mathlib.Omega.{arith}
 use Rattle.spec_model.specs.Basics.{Res, refuse, ok, need}
 use Rattle.spec_model.specs.Requests.{System, Request, Result, pair, number, nothing, Outcome as Outcomeᵐ, got, refused, outcome, serve, after}
-use Rattle.spec_model.specs.Check.{systemAccepted, systemFits, systemOf}
-use Rattle.spec_model.specs.Refusals.{outOfRange}
+use Rattle.spec_model.specs.Check.{system_accepted, system_fits, system_of}
+use Rattle.spec_model.specs.Refusals.{out_of_range}
 use Rattle.law_model.proofs.Steps.{IfOk}
 use Rattle.law_model.proofs.Checked.{Bounded, bounded-calls, fits-bounded, checked-stays}
 use Rattle.law_model.proofs.Returned.{accepted-codes}
 use Rattle.law_handed.proofs.Small.{Named, small-serve}
 use Rattle.law_handed.proofs.Small.{Small as SmallWith}
 use Rattle.state_record.specs.Whole.{Whole as State}
-use Rattle.state_record.specs.View.{rawState, systemIn}
+use Rattle.state_record.specs.View.{raw_state, system_in}
 use Rattle.request_common.specs.declared.Outcome.{Outcome}
 use Rattle.request_common.specs.declared.Outcome.TheVariants.{Refused, Pair, Number, Nothing}
 use Rattle.request_common.specs.Served.{Done as Served}
-use Rattle.request_common.specs.Served.{outcomeOf}
+use Rattle.request_common.specs.Served.{outcome_of}
 use Rattle.request_serve.specs.Serves.{defined, Serves}
 use Rattle.request_serve.proofs.Laws.{serves-answer}
 use Rattle.request_results.specs.Stored.{Small}
@@ -28,11 +28,11 @@ SmallResult (pair a b) = (a < 65536) × (b < 65536)
 SmallResult (number v) = Unit
 SmallResult nothing = Unit
 
-serve-small : (s : System) → So (systemFits s) → (q : Request) → IfOk (serve s q) (λ x. SmallResult x.1)
+serve-small : (s : System) → So (system_fits s) → (q : Request) → IfOk (serve s q) (λ x. SmallResult x.1)
 serve-small s h q = go (serve s q) (small-serve s q) (checked-stays s h q)
   where
     small : (s' : System) → Bounded s' → (x : Result) → Named s s' x → SmallResult x
-    small s' k (pair a b) (inl w) = let p = (k.cells a w.0).place in (omega (arith, w.0, k.cellCount), omega (arith, w.1, p, k.places.count))
+    small s' k (pair a b) (inl w) = let p = (k.cells a w.0).place in (omega (arith, w.0, k.cell_count), omega (arith, w.1, p, k.places.count))
     small s' k (pair a b) (inr w) = let old = fits-bounded s h in (omega (arith, w.0, bounded-calls s old), omega (arith, w.1, old.places.count))
     small s' k (number v) w = tt
     small s' k nothing w = tt
@@ -42,7 +42,7 @@ serve-small s h q = go (serve s q) (small-serve s q) (checked-stays s h q)
     go (ok x) n k = small x.0 k x.1 n
 
 -- the answer that is given is that of the request
-small_of : (a : Outcome) (m : Res (System × Result)) → outcomeOf a ≡ outcome m → IfOk m (λ x. SmallResult x.1) → Small a
+small_of : (a : Outcome) (m : Res (System × Result)) → outcome_of a ≡ outcome m → IfOk m (λ x. SmallResult x.1) → Small a
 small_of (Refused e) m p h = tt
 small_of (Number v) m p h = tt
 small_of Nothing m p h = tt
@@ -54,9 +54,9 @@ small_of (Pair a b) (ok x) p h = subst SmallResult (sym (ap result p)) h
     result (refused e) = nothing
 
 pub served-small : (s : State) (q : Request) (r : Served) → Serves s q r → Small r.outcome
-unfolding systemIn
-served-small s q r w = small_of r.outcome (defined s q) (serves-answer s q r w) (go (systemAccepted (rawState s)) refl)
+unfolding system_in
+served-small s q r w = small_of r.outcome (defined s q) (serves-answer s q r w) (go (system_accepted (raw_state s)) refl)
   where
-    go : (b : Bool) → systemAccepted (rawState s) ≡ b → IfOk {A = System × Result} (need b outOfRange λ _. serve (systemIn s) q) (λ x. SmallResult x.1)
-    go true e = serve-small (systemOf (rawState s)) (accepted-codes (rawState s) e).2 q
+    go : (b : Bool) → system_accepted (raw_state s) ≡ b → IfOk {A = System × Result} (need b out_of_range λ _. serve (system_in s) q) (λ x. SmallResult x.1)
+    go true e = serve-small (system_of (raw_state s)) (accepted-codes (raw_state s) e).2 q
     go false e = tt

@@ -3,8 +3,8 @@
 ghost use Rattle.std.specs.Prelude.{◌≡◌, true, false, List, [], ◌∷◌, ℕ, ◌<◌, pos};
 ghost use Rattle.state_record.specs.Whole.{whole};
 ghost use Rattle.state_bytes.specs.Flat.{flat};
-ghost use Rattle.request_common.specs.Served.{outcomeOf, done};
-ghost use Rattle.request_results.specs.States.{outcomeNumber, outcomeValues, lentState};
+ghost use Rattle.request_common.specs.Served.{outcome_of, done};
+ghost use Rattle.request_results.specs.States.{outcome_number, outcome_values, lent_state};
 ghost use Rattle.request_results.specs.Stored.{Small, Stored, Back};
 
 use request_common::{Outcome, Served};
@@ -33,7 +33,7 @@ fn put_nothing(values: &mut [i64; 3])
 // The number of an outcome, and its values (E12).
 fn outcome_out(a: Outcome, values: &mut [i64; 3]) -> usize
     requires { Small a }
-    ensures { (result ≡ outcomeNumber (outcomeOf a)) × (values.new ≡ outcomeValues values.old (outcomeOf a)) }
+    ensures { (result ≡ outcome_number (outcome_of a)) × (values.new ≡ outcome_values values.old (outcome_of a)) }
 {
     match a {
         Outcome::Refused(e) => e,
@@ -85,8 +85,8 @@ pub fn hand_back(
     requires { Small r.outcome }
     ensures { (t l : List ℕ)
         → Back (done t r) result
-        (lentState (flat t l cells.old places.old calls.old counts.old) values.old)
-        (lentState (flat t l cells.new places.new calls.new counts.new) values.new) }
+        (lent_state (flat t l cells.old places.old calls.old counts.old) values.old)
+        (lent_state (flat t l cells.new places.new calls.new counts.new) values.new) }
 {
     let a = r.outcome;
     if !request_common::accepted(a) {

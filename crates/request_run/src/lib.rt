@@ -1,15 +1,15 @@
-// A run (U): the requests in a list of words, one after the other. What comes of it is the definition `runHanded` in specs/Requested.antt, the model's run of
+// A run (U): the requests in a list of words, one after the other. What comes of it is the definition `run_handed` in specs/Requested.antt, the model's run of
 // those that are requests; the state is checked once, and then each step leaves what the next one needs.
 ghost use Rattle.std.specs.Prelude.{◌≡◌, cond, ◌||◌, ◌<◌, length};
 ghost use Rattle.spec_model.specs.Basics.{ok};
 ghost use Rattle.state_record.specs.Whole.{whole};
-ghost use Rattle.state_record.specs.View.{rawState, systemIn};
+ghost use Rattle.state_record.specs.View.{raw_state, system_in};
 ghost use Rattle.state_record.specs.Sound.{Sound};
 ghost use Rattle.request_common.specs.Served.{Step, done};
-ghost use Rattle.request_by_code.specs.Coded.{serveAsked};
+ghost use Rattle.request_by_code.specs.Coded.{serve_asked};
 ghost use Rattle.request_words.specs.Words.{request, requests};
-ghost use Rattle.request_words.specs.Found.{askedAt};
-ghost use Rattle.request_run.specs.Requested.{runAsked, runHanded};
+ghost use Rattle.request_words.specs.Found.{asked_at};
+ghost use Rattle.request_run.specs.Requested.{run_asked, run_handed};
 ghost use Rattle.request_run.specs.Ran.{room, over, Runs};
 
 use base_numbers::{index_of, refusal};
@@ -36,7 +36,7 @@ impl Ran {
 // The request of a code as a word and its operands (U6).
 fn serve(types: &mut [u8; TYPE_BYTES], s: State, code: i64, ops: &[i64]) -> Served
     requires { Sound (whole types.old s) }
-    ensures { Step (whole types.old s) (serveAsked (systemIn (whole types.old s)) (request code ops.now))
+    ensures { Step (whole types.old s) (serve_asked (system_in (whole types.old s)) (request code ops.now))
         (done types.new result) }
 {
     let k = index_of(code, CODES);
@@ -46,7 +46,7 @@ fn serve(types: &mut [u8; TYPE_BYTES], s: State, code: i64, ops: &[i64]) -> Serv
 // The request at `at` (U6, U7).
 fn serve_at(types: &mut [u8; TYPE_BYTES], s: State, words: &[i64], at: usize) -> Served
     requires { Sound (whole types.old s) × (at < length words.now) }
-    ensures { Step (whole types.old s) (serveAsked (systemIn (whole types.old s)) (askedAt words.now at))
+    ensures { Step (whole types.old s) (serve_asked (system_in (whole types.old s)) (asked_at words.now at))
         (done types.new result) }
 {
     let left = words.len() - at - 1;
@@ -104,7 +104,7 @@ fn run_checked(
 ) -> Ran
     requires { Sound (whole types.old s) × (old.now ≡ types.old) }
     ensures { Runs (whole types.old s) answers.old answers.new
-        (ok (runAsked (systemIn (whole types.old s)) (requests (room answers.old) words.now))) (over types.new result) }
+        (ok (run_asked (system_in (whole types.old s)) (requests (room answers.old) words.now))) (over types.new result) }
 {
     let most = answers.len() / Ran::WORDS;
     let mut any = false;
@@ -129,7 +129,7 @@ fn run_checked(
 // On any state handed in: 2 before all else, and nothing is served (U1).
 pub fn run(types: &mut [u8; TYPE_BYTES], s: State, words: &[i64], answers: &mut [i64]) -> Ran
     ensures { Runs (whole types.old s) answers.old answers.new
-        (runHanded (rawState (whole types.old s)) (room answers.old) words.now) (over types.new result) }
+        (run_handed (raw_state (whole types.old s)) (room answers.old) words.now) (over types.new result) }
 {
     if state_check::state_fits(types, s) {
         let old = copied(*types);

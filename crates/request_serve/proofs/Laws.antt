@@ -11,39 +11,39 @@ use lib.ListN.{take, drop, drop_of_length-le}
 use Rattle.spec_model.specs.Basics.{Res, refuse, ok, need}
 use Rattle.spec_model.specs.Table.{Ty, size}
 use Rattle.spec_model.specs.Requests.{System, Request, Result, Outcome as Outcomeᵐ, got, refused, outcome, serve, after}
-use Rattle.spec_model.specs.Check.{systemAccepted, systemOf}
-use Rattle.spec_model.specs.Handed.{counted, handBack, serveHanded}
+use Rattle.spec_model.specs.Check.{system_accepted, system_of}
+use Rattle.spec_model.specs.Handed.{counted, hand_back, serve_handed}
 use Rattle.spec_model.proofs.Rules.{never}
-use Rattle.spec_model.specs.Refusals.{form, outOfRange}
+use Rattle.spec_model.specs.Refusals.{form, out_of_range}
 use Rattle.law_model.proofs.Returned.{Before, handed-is}
 use Rattle.law_handed.proofs.Laws.{returns-means}
 use Rattle.law_handed.proofs.Before.{returns-before}
-use Rattle.table_record.specs.Store.{withCount}
+use Rattle.table_record.specs.Store.{with_count}
 use Rattle.table_record.specs.Records.{bytes_of}
-use Rattle.table_record.specs.Layout.{typeSize}
+use Rattle.table_record.specs.Layout.{type_size}
 use Rattle.state_record.specs.declared.State.{State as Rest}
 use Rattle.state_record.specs.Whole.{Whole as State}
 use Rattle.state_record.specs.Whole.{whole}
 use Rattle.state_record.specs.Sound.{Sound}
-use Rattle.state_record.specs.View.{rawState, systemIn, withTypes}
+use Rattle.state_record.specs.View.{raw_state, system_in, with_types}
 use Rattle.request_common.specs.declared.Outcome.{Outcome}
 use Rattle.request_common.specs.declared.Outcome.TheVariants.{Refused, Pair, Number, Nothing}
 use Rattle.request_common.specs.declared.Served.{Served}
-use Rattle.request_common.specs.Served.{Done, refusalOf as refusal}
-use Rattle.request_common.specs.Served.{outcomeOf, servedWith, servedAs, done, Step}
+use Rattle.request_common.specs.Served.{Done, refusal_of as refusal}
+use Rattle.request_common.specs.Served.{outcome_of, served_with, served_as, done, Step}
 use Rattle.request_common.proofs.Laws.{refuses}
-use Rattle.request_common.specs.Back.{isAccepted}
+use Rattle.request_common.specs.Back.{is_accepted}
 use Rattle.request_call.specs.declared.Plan.{Plan}
 use Rattle.request_call.specs.Called.{Planned}
-use Rattle.request_by_code.specs.Coded.{serveAsked}
+use Rattle.request_by_code.specs.Coded.{serve_asked}
 use Rattle.request_by_code.proofs.Laws.{outcome-is}
 use Rattle.request_serve.specs.Serves.{defined, leaves, Serves, ServesAsked}
-use Rattle.request_common.specs.Back.{givenBack}
+use Rattle.request_common.specs.Back.{given_back}
 use Rattle.request_serve.specs.Known.{Known}
 use Rattle.request_serve.proofs.Stored.{sized, counted-stored, counts-stored, bytes-stored}
 
 -- the answers that are refusals
-refused-answer : (a : Outcome) (e : ℕ) → outcomeOf a ≡ refused e → a ≡ Refused e
+refused-answer : (a : Outcome) (e : ℕ) → outcome_of a ≡ refused e → a ≡ Refused e
 refused-answer (Refused n) e p = ap Refused (ap number p)
   where
     number : Outcomeᵐ → ℕ
@@ -54,78 +54,78 @@ refused-answer (Number v) e p = let z : ◌≡◌ {A = ℕ} 0 1 = cc in absurd (
 refused-answer Nothing e p = let z : ◌≡◌ {A = ℕ} 0 1 = cc in absurd (omega arith)
 
 -- ---- What a step leaves, t, and what is left of it once a refused one has given back the types: t'.
-module _ {b t t' : List ℕ} {s : Rest} {m : Res (System × Result)} {r : Served} (h : Sound (whole b s)) (w : Step (whole b s) m (done t r)) (e : t' ≡ givenBack b t r.outcome) where
+module _ {b t t' : List ℕ} {s : Rest} {m : Res (System × Result)} {r : Served} (h : Sound (whole b s)) (w : Step (whole b s) m (done t r)) (e : t' ≡ given_back b t r.outcome) where
   back-stays : (d : ℕ) → r.outcome ≡ Refused d → whole t' r.state ≡ whole b s
-  back-stays d z = ap (λ (x : List ℕ). whole x r.state) (e ∙ ap (givenBack b t) z) ∙ ap (λ (x : State). withTypes x b) (w.stays d z)
+  back-stays d z = ap (λ (x : List ℕ). whole x r.state) (e ∙ ap (given_back b t) z) ∙ ap (λ (x : State). with_types x b) (w.stays d z)
 
   back_step : Step (whole b s) m (done t' r)
   back_step = go r.outcome refl
     where
-      kept : (a : Outcome) → r.outcome ≡ a → givenBack b t a ≡ t → Step (whole b s) m (done t' r)
-      kept a z y = subst (λ (x : List ℕ). Step (whole b s) m (done x r)) (sym (e ∙ ap (givenBack b t) z ∙ y)) w
+      kept : (a : Outcome) → r.outcome ≡ a → given_back b t a ≡ t → Step (whole b s) m (done t' r)
+      kept a z y = subst (λ (x : List ℕ). Step (whole b s) m (done x r)) (sym (e ∙ ap (given_back b t) z ∙ y)) w
 
       go : (a : Outcome) → r.outcome ≡ a → Step (whole b s) m (done t' r)
-      go (Refused d) z = refuses h (sym w.is ∙ ap (λ (a : Outcome). servedWith (systemIn (whole t r.state)) (outcomeOf a)) z)
+      go (Refused d) z = refuses h (sym w.is ∙ ap (λ (a : Outcome). served_with (system_in (whole t r.state)) (outcome_of a)) z)
           (ap (λ (a : Outcome). record { outcome = a; state = whole t' r.state }) z ∙ ap (λ (x : State). refusal x d) (back-stays d z))
       go (Pair x y) z = kept (Pair x y) z refl
       go (Number v) z = kept (Number v) z refl
       go Nothing z = kept Nothing z refl
 
 -- ---- a step
-module _ (s : State) (q : Request) (r : Done) (h : So (systemAccepted (rawState s))) (w : Step s (serve (systemIn s) q) r) (stays : (e : ℕ) → r.outcome ≡ Refused e → r.state ≡ s) where
+module _ (s : State) (q : Request) (r : Done) (h : So (system_accepted (raw_state s))) (w : Step s (serve (system_in s) q) r) (stays : (e : ℕ) → r.outcome ≡ Refused e → r.state ≡ s) where
   abbrev s' : State
   s' = r.state
 
-  defined-is : defined s q ≡ serve (systemIn s) q
-  defined-is = ap (λ (b : Bool). need b outOfRange λ _. serve (systemIn s) q) h
+  defined-is : defined s q ≡ serve (system_in s) q
+  defined-is = ap (λ (b : Bool). need b out_of_range λ _. serve (system_in s) q) h
 
-  handed : serveHanded (rawState s) q ≡ handBack (rawState s) (servedAs r)
-  unfolding systemIn
-  handed = handed-is (rawState s) h q ∙ ap (handBack (rawState s)) (sym w.is)
+  handed : serve_handed (raw_state s) q ≡ hand_back (raw_state s) (served_as r)
+  unfolding system_in
+  handed = handed-is (raw_state s) h q ∙ ap (hand_back (raw_state s)) (sym w.is)
 
-  answers : (o : Outcomeᵐ) → o ≡ (handBack (rawState s) (servedWith (systemIn s') o)).outcome
+  answers : (o : Outcomeᵐ) → o ≡ (hand_back (raw_state s) (served_with (system_in s') o)).outcome
   answers (refused e) = refl
   answers (got x) = refl
 
-  stored : (o : Outcomeᵐ) → outcomeOf r.outcome ≡ o → counted (rawState s') ≡ counted (handBack (rawState s) (servedWith (systemIn s') o)).state
-  stored (refused e) p = ap (λ x. counted (rawState x)) (stays e (refused-answer r.outcome e p))
+  stored : (o : Outcomeᵐ) → outcome_of r.outcome ≡ o → counted (raw_state s') ≡ counted (hand_back (raw_state s) (served_with (system_in s') o)).state
+  stored (refused e) p = ap (λ x. counted (raw_state x)) (stays e (refused-answer r.outcome e p))
   stored (got x) p = counted-stored s s' w.stored
 
-  left-with : (o : Outcomeᵐ) → outcomeOf r.outcome ≡ o → after (systemIn s) (servedWith (systemIn s') o) ≡ systemIn s'
-  left-with (refused e) p = ap systemIn (sym (stays e (refused-answer r.outcome e p)))
+  left-with : (o : Outcomeᵐ) → outcome_of r.outcome ≡ o → after (system_in s) (served_with (system_in s') o) ≡ system_in s'
+  left-with (refused e) p = ap system_in (sym (stays e (refused-answer r.outcome e p)))
   left-with (got x) p = refl
 
-  left : leaves s q ≡ systemIn s'
-  left = ap (after (systemIn s)) (defined-is ∙ sym w.is) ∙ left-with (outcomeOf r.outcome) refl
+  left : leaves s q ≡ system_in s'
+  left = ap (after (system_in s)) (defined-is ∙ sym w.is) ∙ left-with (outcome_of r.outcome) refl
 
   step-serves : Serves s q r
   step-serves = record {
     returns = record {
-      outcome = answers (outcomeOf r.outcome) ∙ ap (λ x. x.outcome) (sym handed);
-      records = stored (outcomeOf r.outcome) refl ∙ ap (λ x. counted x.state) (sym handed);
-      untouched = λ e p. ap rawState (stays e (refused-answer r.outcome e p));
+      outcome = answers (outcome_of r.outcome) ∙ ap (λ x. x.outcome) (sym handed);
+      records = stored (outcome_of r.outcome) refl ∙ ap (λ x. counted x.state) (sym handed);
+      untouched = λ e p. ap raw_state (stays e (refused-answer r.outcome e p));
     };
     stays = stays;
     links = w.stored.links;
-    counts = counts-stored s s' w.stored ∙ ap (λ (x : System). withCount s.counts (size x.table)) (sym left);
+    counts = counts-stored s s' w.stored ∙ ap (λ (x : System). with_count s.counts (size x.table)) (sym left);
     types = subst
-        (λ (x : System). take (size x.table * typeSize) s'.types ≡ take (s.counts.types * typeSize) s.types ++ flatten (map bytes_of (drop s.counts.types x.table.types)))
+        (λ (x : System). take (size x.table * type_size) s'.types ≡ take (s.counts.types * type_size) s.types ++ flatten (map bytes_of (drop s.counts.types x.table.types)))
         (sym left) (bytes-stored s s' w.stored);
   }
 
 -- a step on a state that was taken, its types given back
-pub back-serves : (b t t' : List ℕ) (s : Rest) (q : Option Request) (r : Served) → Sound (whole b s) → So (systemAccepted (rawState (whole b s)))
-    → Step (whole b s) (serveAsked (systemIn (whole b s)) q) (done t r) → t' ≡ givenBack b t r.outcome → ServesAsked (whole b s) q (done t' r)
-unfolding serveAsked
+pub back-serves : (b t t' : List ℕ) (s : Rest) (q : Option Request) (r : Served) → Sound (whole b s) → So (system_accepted (raw_state (whole b s)))
+    → Step (whole b s) (serve_asked (system_in (whole b s)) q) (done t r) → t' ≡ given_back b t r.outcome → ServesAsked (whole b s) q (done t' r)
+unfolding serve_asked
 back-serves b t t' s none r h k w e = let z = refused-answer r.outcome form (sym (outcome-is (whole b s) (refuse form) (done t r) w)) in
     ap (λ (x : State). record { outcome = r.outcome; state = x }) (back-stays h w e form z) ∙ ap (λ (a : Outcome). record { outcome = a; state = whole b s }) z
-    ∙ ap (λ (x : Bool). refusal (whole b s) (cond x form outOfRange)) (sym k)
+    ∙ ap (λ (x : Bool). refusal (whole b s) (cond x form out_of_range)) (sym k)
 back-serves b t t' s (some q) r h k w e = step-serves (whole b s) q (done t' r) k (back_step h w e) (back-stays h w e)
 
 -- ---- A request that stores no type: what it leaves is what it would give back.
-pub kept-serves : (b t : List ℕ) (s : Rest) (q : Option Request) (r : Served) → Sound (whole b s) → So (systemAccepted (rawState (whole b s)))
-    → Step (whole b s) (serveAsked (systemIn (whole b s)) q) (done t r) → t ≡ b → ServesAsked (whole b s) q (done t r)
-kept-serves b t s q r h k w e = back-serves b t t s q r h k w (go (isAccepted r.outcome))
+pub kept-serves : (b t : List ℕ) (s : Rest) (q : Option Request) (r : Served) → Sound (whole b s) → So (system_accepted (raw_state (whole b s)))
+    → Step (whole b s) (serve_asked (system_in (whole b s)) q) (done t r) → t ≡ b → ServesAsked (whole b s) q (done t r)
+kept-serves b t s q r h k w e = back-serves b t t s q r h k w (go (is_accepted r.outcome))
   where
     go : (x : Bool) → t ≡ cond x t b
     go true = refl
@@ -139,21 +139,21 @@ pub known-call : (s : State) (vs : List ℤ) (m m' : Res (System × Result)) →
 known-call s vs m m' e p h = record { stops = λ z. e ∙ h.stops z; fits = λ z y. h.fits z; adds = λ z y. e ∙ h.adds z y }
 
 -- ---- a refusal with 2
-module _ (s : State) (q : Request) (no : systemAccepted (rawState s) ≡ false) where
-  refuses-out-of-range : serveHanded (rawState s) q ≡ handBack (rawState s) (refuse outOfRange)
-  unfolding serveHanded
-  refuses-out-of-range = ap (λ (b : Bool). handBack (rawState s) (need b outOfRange λ _. serve (systemOf (rawState s)) q)) no
+module _ (s : State) (q : Request) (no : system_accepted (raw_state s) ≡ false) where
+  refuses-out-of-range : serve_handed (raw_state s) q ≡ hand_back (raw_state s) (refuse out_of_range)
+  unfolding serve_handed
+  refuses-out-of-range = ap (λ (b : Bool). hand_back (raw_state s) (need b out_of_range λ _. serve (system_of (raw_state s)) q)) no
 
-  untouched : leaves s q ≡ systemIn s
-  untouched = ap (λ (b : Bool). after (systemIn s) (need b outOfRange λ _. serve (systemIn s) q)) no
+  untouched : leaves s q ≡ system_in s
+  untouched = ap (λ (b : Bool). after (system_in s) (need b out_of_range λ _. serve (system_in s) q)) no
 
-  all_old : take (s.counts.types * typeSize) s.types ≡ take (s.counts.types * typeSize) s.types ++ flatten (map bytes_of (drop s.counts.types (systemIn s).table.types))
+  all_old : take (s.counts.types * type_size) s.types ≡ take (s.counts.types * type_size) s.types ++ flatten (map bytes_of (drop s.counts.types (system_in s).table.types))
   unfolding flatten
-  all_old = let e : size (systemIn s).table ≤ s.counts.types = omega (arith, sized s) in
-      sym (ap (λ (xs : List Ty). take (s.counts.types * typeSize) s.types ++ flatten (map bytes_of xs)) (drop_of_length-le (systemIn s).table.types e)
-      ∙ append-nil (take (s.counts.types * typeSize) s.types))
+  all_old = let e : size (system_in s).table ≤ s.counts.types = omega (arith, sized s) in
+      sym (ap (λ (xs : List Ty). take (s.counts.types * type_size) s.types ++ flatten (map bytes_of xs)) (drop_of_length-le (system_in s).table.types e)
+      ∙ append-nil (take (s.counts.types * type_size) s.types))
 
-  two-serves : Serves s q (refusal s outOfRange)
+  two-serves : Serves s q (refusal s out_of_range)
   two-serves = record {
     returns = record {
       outcome = ap (λ x. x.outcome) (sym refuses-out-of-range);
@@ -162,35 +162,35 @@ module _ (s : State) (q : Request) (no : systemAccepted (rawState s) ≡ false) 
     };
     stays = λ e p. refl;
     links = refl;
-    counts = ap (withCount s.counts) (sym (ap (λ (x : System). size x.table) untouched ∙ sized s));
+    counts = ap (with_count s.counts) (sym (ap (λ (x : System). size x.table) untouched ∙ sized s));
     types = subst
-        (λ (x : System). take (size x.table * typeSize) s.types ≡ take (s.counts.types * typeSize) s.types ++ flatten (map bytes_of (drop s.counts.types x.table.types)))
-        (sym untouched) (ap (λ (n : ℕ). take (n * typeSize) s.types) (sized s) ∙ all_old);
+        (λ (x : System). take (size x.table * type_size) s.types ≡ take (s.counts.types * type_size) s.types ++ flatten (map bytes_of (drop s.counts.types x.table.types)))
+        (sym untouched) (ap (λ (n : ℕ). take (n * type_size) s.types) (sized s) ∙ all_old);
   }
 
 -- of a request or of none
-pub refused-serves : (s : State) (q : Option Request) → systemAccepted (rawState s) ≡ false → (r : Done) → r ≡ refusal s outOfRange → ServesAsked s q r
-refused-serves s none h r e = e ∙ ap (λ (x : Bool). refusal s (cond x form outOfRange)) (sym h)
+pub refused-serves : (s : State) (q : Option Request) → system_accepted (raw_state s) ≡ false → (r : Done) → r ≡ refusal s out_of_range → ServesAsked s q r
+refused-serves s none h r e = e ∙ ap (λ (x : Bool). refusal s (cond x form out_of_range)) (sym h)
 refused-serves s (some q) h r e = subst (λ x. Serves s q x) (sym e) (two-serves s q h)
 
 -- ---- what `Serves` says in the words of the model: the answer, and the meaning of the state that comes back
 module _ (s : State) (q : Request) (r : Done) (w : Serves s q r) where
-  pub serves-answer : outcomeOf r.outcome ≡ outcome (defined s q)
-  unfolding serveHanded systemIn
+  pub serves-answer : outcome_of r.outcome ≡ outcome (defined s q)
+  unfolding serve_handed system_in
   serves-answer = w.returns.outcome ∙ go (defined s q)
     where
-      go : (m : Res (System × Result)) → (handBack (rawState s) m).outcome ≡ outcome m
+      go : (m : Res (System × Result)) → (hand_back (raw_state s) m).outcome ≡ outcome m
       go (refuse e) = refl
       go (ok x) = refl
 
-  pub serves-means : systemIn r.state ≡ leaves s q
-  unfolding systemIn
-  serves-means = go (systemAccepted (rawState s)) refl
+  pub serves-means : system_in r.state ≡ leaves s q
+  unfolding system_in
+  serves-means = go (system_accepted (raw_state s)) refl
     where
-      go : (b : Bool) → systemAccepted (rawState s) ≡ b → systemIn r.state ≡ after (systemIn s) (need b outOfRange λ _. serve (systemIn s) q)
-      go true e = returns-means (rawState s) q (outcomeOf r.outcome) (rawState r.state) w.returns e
-      go false e = ap systemIn (w.stays outOfRange (refused-answer r.outcome outOfRange (w.returns.outcome ∙ ap (λ x. x.outcome) (refuses-out-of-range s q e))))
+      go : (b : Bool) → system_accepted (raw_state s) ≡ b → system_in r.state ≡ after (system_in s) (need b out_of_range λ _. serve (system_in s) q)
+      go true e = returns-means (raw_state s) q (outcome_of r.outcome) (raw_state r.state) w.returns e
+      go false e = ap system_in (w.stays out_of_range (refused-answer r.outcome out_of_range (w.returns.outcome ∙ ap (λ x. x.outcome) (refuses-out-of-range s q e))))
 
   -- every record counted before is stored as it was, a call's but for its flag (Q15)
-  pub serves-before : Before (rawState s) (rawState r.state)
-  serves-before = returns-before (rawState s) q (outcomeOf r.outcome) (rawState r.state) w.returns
+  pub serves-before : Before (raw_state s) (raw_state r.state)
+  serves-before = returns-before (raw_state s) q (outcome_of r.outcome) (raw_state r.state) w.returns

@@ -1,16 +1,16 @@
 // A request on a state that is handed in (Q13 to Q15), by its code and operands (U2 to U6): the entry point of a caller who keeps the state himself. It takes
 // any state and any numbers: 2 where the state does not pass, before all else; then the step that the run and the script take too.
 ghost use Rattle.std.specs.Prelude.{◌≡◌, true, length};
-ghost use Rattle.spec_model.specs.Check.{systemAccepted};
-ghost use Rattle.spec_model.specs.Coded.{byCode};
+ghost use Rattle.spec_model.specs.Check.{system_accepted};
+ghost use Rattle.spec_model.specs.Coded.{by_code};
 ghost use Rattle.state_record.specs.Whole.{whole};
-ghost use Rattle.state_record.specs.View.{rawState, systemIn};
+ghost use Rattle.state_record.specs.View.{raw_state, system_in};
 ghost use Rattle.state_record.specs.Sound.{Sound};
 ghost use Rattle.request_common.specs.Served.{done};
-ghost use Rattle.request_by_code.specs.Coded.{serveAsked};
+ghost use Rattle.request_by_code.specs.Coded.{serve_asked};
 ghost use Rattle.request_serve.specs.Serves.{ServesAsked};
 ghost use Rattle.request_serve.specs.Known.{Known};
-ghost use Rattle.table_record.specs.Layout.{typesSize};
+ghost use Rattle.table_record.specs.Layout.{types_size};
 
 use base_numbers::refusal;
 use request_answer::Given;
@@ -21,7 +21,7 @@ use table_record::{Method, TYPE_BYTES};
 
 // An array that is held has its length, of a lent one nothing says it; the copy goes when this is inlined.
 fn type_bytes(b: [u8; TYPE_BYTES])
-    ensures { length b ≡ typesSize }
+    ensures { length b ≡ types_size }
 {}
 
 fn unplanned() -> Plan
@@ -41,7 +41,7 @@ fn unplanned() -> Plan
 // What is known of a request by the types as they are: of a call alone (U4), for the others it is not asked.
 fn planned(types: &[u8; TYPE_BYTES], s: State, code: usize, ops: &[i64]) -> Plan
     requires { Sound (whole types.now s) }
-    ensures { Known (whole types.now s) (serveAsked (systemIn (whole types.now s)) (byCode code ops.now)) result }
+    ensures { Known (whole types.now s) (serve_asked (system_in (whole types.now s)) (by_code code ops.now)) result }
 {
     if code != request_operands::CALL {
         return unplanned();
@@ -54,8 +54,8 @@ fn planned(types: &[u8; TYPE_BYTES], s: State, code: usize, ops: &[i64]) -> Plan
 
 // A request that may store types: they are saved first, and given back where it is refused (Q14).
 fn serve_saved(types: &mut [u8; TYPE_BYTES], s: State, code: usize, ops: &[i64]) -> Served
-    requires { Sound (whole types.old s) × (systemAccepted (rawState (whole types.old s)) ≡ true) }
-    ensures { ServesAsked (whole types.old s) (byCode code ops.now) (done types.new result) }
+    requires { Sound (whole types.old s) × (system_accepted (raw_state (whole types.old s)) ≡ true) }
+    ensures { ServesAsked (whole types.old s) (by_code code ops.now) (done types.new result) }
 {
     let old = request_common::copied(*types);
     let r = request_by_code::serve_coded(types, s, code, ops);
@@ -66,8 +66,8 @@ fn serve_saved(types: &mut [u8; TYPE_BYTES], s: State, code: usize, ops: &[i64])
 
 // An answer of nothing, whose operands are two (U5): whatever comes of it, no type is stored.
 fn serve_nothing(types: &mut [u8; TYPE_BYTES], s: State, ops: &[i64]) -> Served
-    requires { Sound (whole types.old s) × (systemAccepted (rawState (whole types.old s)) ≡ true) × (length ops.now ≡ 2) }
-    ensures { ServesAsked (whole types.old s) (byCode 3 ops.now) (done types.new result) }
+    requires { Sound (whole types.old s) × (system_accepted (raw_state (whole types.old s)) ≡ true) × (length ops.now ≡ 2) }
+    ensures { ServesAsked (whole types.old s) (by_code 3 ops.now) (done types.new result) }
 {
     request_answer::answer_step(types, s, ops[0], ops[1], Given::Nothing)
 }
@@ -75,7 +75,7 @@ fn serve_nothing(types: &mut [u8; TYPE_BYTES], s: State, ops: &[i64]) -> Served
 // The request of a code and its operands: 1 where there is none such (U6). Refused, every byte of state and types is as it was (Q14). The types are saved where
 // a type may be stored: not for an answer of nothing, nor for a call whose arguments are all numbers.
 pub fn serve(types: &mut [u8; TYPE_BYTES], s: State, code: usize, ops: &[i64]) -> Served
-    ensures { ServesAsked (whole types.old s) (byCode code ops.now) (done types.new result) }
+    ensures { ServesAsked (whole types.old s) (by_code code ops.now) (done types.new result) }
 {
     if !state_check::state_fits(types, s) {
         return request_common::refused(s, refusal::OUT_OF_RANGE);

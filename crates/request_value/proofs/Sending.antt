@@ -12,50 +12,50 @@ use lib.IntN.{ℤ}
 use lib.ListN.{length, get_or, drop, length-append, get_or-eq_default}
 use borrow.Author.Tests.{eq-eqb, ne_eqb}
 use Rattle.spec_model.specs.Basics.{Res, refuse, ok, try, need, named}
-use Rattle.spec_model.specs.Table.{Table, type_at, argumentAt, isRef}
+use Rattle.spec_model.specs.Table.{Table, type_at, argument_at, is_ref}
 use Rattle.spec_model.specs.Crossing.{Reference}
-use Rattle.spec_model.specs.Requests.{System, Result, pair, nothing, noCell, leaving, withCell, addCell, after, maxCells, crossLayers, passLayers, send, sendArguments}
+use Rattle.spec_model.specs.Requests.{System, Result, pair, nothing, no_cell, leaving, with_cell, add_cell, after, max_cells, cross_layers, pass_layers, send, send_arguments}
 use Rattle.spec_model.specs.Requests.{Cell as Cellᵐ}
 use Rattle.spec_model.proofs.Rules.{never}
-use Rattle.spec_model.specs.Refusals.{cellsFull}
+use Rattle.spec_model.specs.Refusals.{cells_full}
 use Rattle.table_record.specs.declared.Counts.{Counts}
-use Rattle.table_record.specs.Store.{tableIn, refIn}
+use Rattle.table_record.specs.Store.{table_in, ref_in}
 use Rattle.table_record.proofs.Lists.{lt-or-ge}
 use Rattle.table_record.proofs.Tables.{ref-table}
 use Rattle.state_record.specs.declared.Cell.{Cell}
 use Rattle.state_record.specs.Whole.{Whole as State}
-use Rattle.state_record.specs.View.{cell_of, cells_in, placesIn, systemIn}
+use Rattle.state_record.specs.View.{cell_of, cells_in, places_in, system_in}
 use Rattle.state_record.specs.Sound.{CellIn, Sound}
 use Rattle.state_record.proofs.Laws.{cells-length, places-length, calls-length, system-is, means-counted}
 use Rattle.crossing_meet.specs.declared.Crossed.{Crossed}
-use Rattle.crossing_meet.specs.Crossed.{reference, Ready, PlaceKnown, crossedOf, Leaves}
+use Rattle.crossing_meet.specs.Crossed.{reference, Ready, PlaceKnown, crossed_of, Leaves}
 use Rattle.crossing_meet.proofs.Laws.{refused-is, came-is}
-use Rattle.crossing_targets.specs.Targets.{passedOf}
+use Rattle.crossing_targets.specs.Targets.{passed_of}
 use Rattle.request_common.specs.declared.Outcome.{Outcome}
 use Rattle.request_common.specs.declared.Outcome.TheVariants.{Refused, Pair, Number, Nothing}
-use Rattle.request_common.specs.Served.{Done as Served, refusalOf as refusal}
-use Rattle.state_record.specs.View.{withTypes}
-use Rattle.request_common.specs.Served.{outcomeOf, servedWith, servedAs, Stored, Step, Arrives, arrived}
+use Rattle.request_common.specs.Served.{Done as Served, refusal_of as refusal}
+use Rattle.state_record.specs.View.{with_types}
+use Rattle.request_common.specs.Served.{outcome_of, served_with, served_as, Stored, Step, Arrives, arrived}
 use Rattle.request_common.proofs.Laws.{stored-self, stored_on, refuses, refuses-kept, step-as, table_is, calls_are}
-use Rattle.request_value.specs.Sent.{sendArgument, allSent, Went, Sent}
-use Rattle.request_common.specs.Back.{isAccepted}
+use Rattle.request_value.specs.Sent.{send_argument, all_sent, Went, Sent}
+use Rattle.request_common.specs.Back.{is_accepted}
 
 -- ---- Answers.
 -- what goes on with the state of an accepted request alone
-pub goes_on : {A : Type 0} (a : Outcome) (s : System) (k : System → Res A) → isAccepted a ≡ true → try (servedWith s (outcomeOf a)) (λ x. k x.0) ≡ k s
+pub goes_on : {A : Type 0} (a : Outcome) (s : System) (k : System → Res A) → is_accepted a ≡ true → try (served_with s (outcome_of a)) (λ x. k x.0) ≡ k s
 goes_on (Refused e) s k h = never h
 goes_on (Pair x y) s k h = refl
 goes_on (Number v) s k h = refl
 goes_on Nothing s k h = refl
 
 -- a request that is not accepted is refused with some number
-pub only-refused : (P : Outcome → Type 0) → ((e : ℕ) → P (Refused e)) → (a : Outcome) → isAccepted a ≡ false → P a
+pub only-refused : (P : Outcome → Type 0) → ((e : ℕ) → P (Refused e)) → (a : Outcome) → is_accepted a ≡ false → P a
 only-refused P f (Refused e) h = f e
 only-refused P f (Pair x y) h = never (sym h)
 only-refused P f (Number v) h = never (sym h)
 only-refused P f Nothing h = never (sym h)
 
-pub accepted-by : (a : Outcome) (s : System) {x : System × Result} → servedWith s (outcomeOf a) ≡ ok x → isAccepted a ≡ true
+pub accepted-by : (a : Outcome) (s : System) {x : System × Result} → served_with s (outcome_of a) ≡ ok x → is_accepted a ≡ true
 accepted-by (Refused e) s h = absurd (let z : ◌≡◌ {A = ℕ} 0 1 = ap (λ (y : Res (System × Result)). elim y [ refuse d ↦ 0 | ok u ↦ 1 ]) h in omega arith)
 accepted-by (Pair x y) s h = refl
 accepted-by (Number v) s h = refl
@@ -65,27 +65,27 @@ accepted-by Nothing s h = refl
 pub step_after : {s : State} {x : System × Result} (s₁ : State) → Stored s s₁ → (r : Served) → Step s₁ (ok x) r → Step s (ok x) r
 step_after {s} s₁ k r g = record {
   is = g.is;
-  stays = λ e u. never (sym (ap isAccepted u) ∙ accepted-by r.outcome (systemIn r.state) g.is);
+  stays = λ e u. never (sym (ap is_accepted u) ∙ accepted-by r.outcome (system_in r.state) g.is);
   stored = stored_on s s₁ r.state k g.stored;
   sound = g.sound;
 }
 
 -- what is refused is refused by whatever goes on with it
-pub step-stops : {s : State} {m : Res (System × Result)} (k : System × Result → Res (System × Result)) (q : Served) → Step s m q → isAccepted q.outcome ≡ false → Step s (try m k) q
+pub step-stops : {s : State} {m : Res (System × Result)} (k : System × Result → Res (System × Result)) (q : Served) → Step s m q → is_accepted q.outcome ≡ false → Step s (try m k) q
 step-stops {s} {m} k q h z = record { is = same q.outcome z ∙ ap (λ (y : Res (System × Result)). try y k) h.is; stays = h.stays; stored = h.stored; sound = h.sound }
   where
-    same : (a : Outcome) → isAccepted a ≡ false → servedWith (systemIn q.state) (outcomeOf a) ≡ try (servedWith (systemIn q.state) (outcomeOf a)) k
-    same = only-refused (λ (a : Outcome). servedWith (systemIn q.state) (outcomeOf a) ≡ try (servedWith (systemIn q.state) (outcomeOf a)) k) (λ e. refl)
+    same : (a : Outcome) → is_accepted a ≡ false → served_with (system_in q.state) (outcome_of a) ≡ try (served_with (system_in q.state) (outcome_of a)) k
+    same = only-refused (λ (a : Outcome). served_with (system_in q.state) (outcome_of a) ≡ try (served_with (system_in q.state) (outcome_of a)) k) (λ e. refl)
 
 -- nothing is done
-pub step-nothing : (s : State) → Sound s → Step s (ok (systemIn s, nothing)) (record { outcome = Nothing; state = s })
+pub step-nothing : (s : State) → Sound s → Step s (ok (system_in s, nothing)) (record { outcome = Nothing; state = s })
 step-nothing s h = record { is = refl; stays = λ e y. refl; stored = stored-self s h; sound = h }
 
 pub went-self : (s : State) → Went s s
 went-self s = record { cells = omega arith; places = omega arith; calls = refl }
 
 -- nor do the bytes of the types count
-went-types : (s : State) (t : List ℕ) → Went s (withTypes s t)
+went-types : (s : State) (t : List ℕ) → Went s (with_types s t)
 went-types s t = record { cells = omega arith; places = omega arith; calls = refl }
 
 pub went_on : (s s₁ s₂ : State) → Went s s₁ → Went s₁ s₂ → Went s s₂
@@ -96,20 +96,20 @@ went-counted {s} {s'} w = sym (calls-length s'.calls) ∙ ap length w.calls ∙ 
 
 -- ---- Sending a reference.
 -- where there is a place and a type, a cell by any number leads to one, by one
-pub any-cell : (s : State) → Sound s → 0 < s.places.count → 0 < s.counts.types → (k : ℕ) → CellIn s (get_or (cells_in s.cells) k noCell)
+pub any-cell : (s : State) → Sound s → 0 < s.places.count → 0 < s.counts.types → (k : ℕ) → CellIn s (get_or (cells_in s.cells) k no_cell)
 any-cell s h p t k = go (lt-or-ge k s.cells.count)
   where
-    go : (k < s.cells.count) ⊎ (s.cells.count ≤ k) → CellIn s (get_or (cells_in s.cells) k noCell)
+    go : (k < s.cells.count) ⊎ (s.cells.count ≤ k) → CellIn s (get_or (cells_in s.cells) k no_cell)
     go (inl l) = h.cells k l
     go (inr l) =
         let n : length (cells_in s.cells) ≡ s.cells.count = cells-length s.cells in
-        subst (CellIn s) (sym (get_or-eq_default (cells_in s.cells) noCell {n = k} (omega arith))) (record { type = t; place = p })
+        subst (CellIn s) (sym (get_or-eq_default (cells_in s.cells) no_cell {n = k} (omega arith))) (record { type = t; place = p })
 
 -- what a new cell leaves of the counts
-went-by : (s q : State) (x : System) → systemIn q ≡ x → length (systemIn s).cells ≤ length x.cells → s.places.count ≤ length x.places → x.calls ≡ (systemIn s).calls
+went-by : (s q : State) (x : System) → system_in q ≡ x → length (system_in s).cells ≤ length x.cells → s.places.count ≤ length x.places → x.calls ≡ (system_in s).calls
     → Went s q
 went-by s q x e c p j =
-    let c₀ : length (systemIn s).cells ≡ s.cells.count = (means-counted s).cells in
+    let c₀ : length (system_in s).cells ≡ s.cells.count = (means-counted s).cells in
     let c₁ : length x.cells ≡ q.cells.count = sym (ap (λ (y : System). length y.cells) e) ∙ (means-counted q).cells in
     let p₁ : length x.places ≡ q.places.count = sym (ap (λ (y : System). length y.places) e) ∙ (means-counted q).places in
     record {
@@ -118,56 +118,56 @@ went-by s q x e c p j =
       calls = sym (calls_are q) ∙ ap (λ (y : System). y.calls) e ∙ j ∙ calls_are s;
     }
 
-pub added_goes : (s : State) (r : ℕ) (f : Reference) → s.places.count ≤ length f.places → (q : Served) → Step s (addCell (systemIn s) r f) q → Went s q.state
-unfolding addCell
-added_goes s r f more q k = go q.outcome refl (ltb (length (systemIn s).cells) maxCells) k.is
+pub added_goes : (s : State) (r : ℕ) (f : Reference) → s.places.count ≤ length f.places → (q : Served) → Step s (add_cell (system_in s) r f) q → Went s q.state
+unfolding add_cell
+added_goes s r f more q k = go q.outcome refl (ltb (length (system_in s).cells) max_cells) k.is
   where
     new : System × Result
-    new = (withCell (systemIn s) r f, pair (length (systemIn s).cells) f.place)
+    new = (with_cell (system_in s) r f, pair (length (system_in s).cells) f.place)
 
-    left : (b : Bool) → systemIn q.state ≡ after (systemIn s) (need b cellsFull (λ _. ok new)) → Went s q.state
-    left true e = went-by s q.state new.0 e (omega (arith, length-append (systemIn s).cells (record { holder = r; type = f.type; place = f.place } ∷ []))) more refl
+    left : (b : Bool) → system_in q.state ≡ after (system_in s) (need b cells_full (λ _. ok new)) → Went s q.state
+    left true e = went-by s q.state new.0 e (omega (arith, length-append (system_in s).cells (record { holder = r; type = f.type; place = f.place } ∷ []))) more refl
     left false e =
-        went-by s q.state (systemIn s) e (omega arith) (let p : length (systemIn s).places ≡ s.places.count = (means-counted s).places in omega arith) refl
+        went-by s q.state (system_in s) e (omega arith) (let p : length (system_in s).places ≡ s.places.count = (means-counted s).places in omega arith) refl
 
-    go : (a : Outcome) → q.outcome ≡ a → (b : Bool) → servedWith (systemIn q.state) (outcomeOf a) ≡ need b cellsFull (λ _. ok new) → Went s q.state
+    go : (a : Outcome) → q.outcome ≡ a → (b : Bool) → served_with (system_in q.state) (outcome_of a) ≡ need b cells_full (λ _. ok new) → Went s q.state
     go (Refused d) z b e = subst (Went s) (sym (k.stays d z)) (went-types s q.state.types)
-    go (Pair x y) z b e = left b (ap (after (systemIn s)) e)
-    go (Number v) z b e = left b (ap (after (systemIn s)) e)
-    go Nothing z b e = left b (ap (after (systemIn s)) e)
+    go (Pair x y) z b e = left b (ap (after (system_in s)) e)
+    go (Number v) z b e = left b (ap (after (system_in s)) e)
+    go Nothing z b e = left b (ap (after (system_in s)) e)
 
-module _ (s : State) (h : Sound s) (r k : ℕ) (c : Cell) (is : cell_of c ≡ get_or (cells_in s.cells) k noCell) (inside : CellIn s (get_or (cells_in s.cells) k noCell)) (ts : List (Option ℕ))
+module _ (s : State) (h : Sound s) (r k : ℕ) (c : Cell) (is : cell_of c ≡ get_or (cells_in s.cells) k no_cell) (inside : CellIn s (get_or (cells_in s.cells) k no_cell)) (ts : List (Option ℕ))
     (ty place : ℕ) (type-is : ty ≡ c.ty) (place_is : place ≡ c.place) where
-  type-at : ty ≡ (get_or (cells_in s.cells) k noCell).type
+  type-at : ty ≡ (get_or (cells_in s.cells) k no_cell).type
   type-at = type-is ∙ ap (λ (x : Cellᵐ). x.type) is
 
-  place_at : place ≡ (get_or (cells_in s.cells) k noCell).place
-  place_at = place_is ∙ ap (λ (x : Cellᵐ). x.place) is
+  place-at : place ≡ (get_or (cells_in s.cells) k no_cell).place
+  place-at = place_is ∙ ap (λ (x : Cellᵐ). x.place) is
 
   pub send-ready : Ready s.links s.counts s.types → Ready s.links s.counts s.types × PlaceKnown s.places place
-  send-ready g = (g, record { descending = h.descending; place = subst (λ (n : ℕ). n < s.places.count) (sym place_at) inside.place })
+  send-ready g = (g, record { descending = h.descending; place = subst (λ (n : ℕ). n < s.places.count) (sym place-at) inside.place })
 
   abbrev From : Reference
-  From = reference (tableIn s.types s.links s.counts) (placesIn s.places) ty place
+  From = reference (table_in s.types s.links s.counts) (places_in s.places) ty place
 
-  leaving-is : leaving (systemIn s) k ≡ From
+  leaving-is : leaving (system_in s) k ≡ From
   leaving-is =
       ap (λ (x : System). leaving x k) (system-is s)
-      ∙ ap (λ (n : ℕ). reference (tableIn s.types s.links s.counts) (placesIn s.places) n (get_or (cells_in s.cells) k noCell).place) (sym type-at)
-      ∙ ap (λ (n : ℕ). reference (tableIn s.types s.links s.counts) (placesIn s.places) ty n) (sym place_at)
+      ∙ ap (λ (n : ℕ). reference (table_in s.types s.links s.counts) (places_in s.places) n (get_or (cells_in s.cells) k no_cell).place) (sym type-at)
+      ∙ ap (λ (n : ℕ). reference (table_in s.types s.links s.counts) (places_in s.places) ty n) (sym place-at)
 
-  module _ (b : List ℕ) (x : Crossed) (crossed : crossedOf b s.links s.counts x ≡ crossLayers true From r ts) (leaves : Leaves s.counts s.places ty s.types b x) where
+  module _ (b : List ℕ) (x : Crossed) (crossed : crossed_of b s.links s.counts x ≡ cross_layers true From r ts) (leaves : Leaves s.counts s.places ty s.types b x) where
     abbrev Arrived : Reference
     Arrived = arrived s b x.types x.places x.ty x.place
 
     abbrev Adds : Res Reference → Res (System × Result)
-    Adds y = try y (λ f. addCell (systemIn s) r f)
+    Adds y = try y (λ f. add_cell (system_in s) r f)
 
-    send-is : send (systemIn s) r k ts ≡ Adds (crossedOf b s.links s.counts x)
+    send-is : send (system_in s) r k ts ≡ Adds (crossed_of b s.links s.counts x)
     unfolding send
-    send-is = ap (λ (f : Reference). try (crossLayers true f r ts) (λ g. addCell (systemIn s) r g)) leaving-is ∙ ap Adds (sym crossed)
+    send-is = ap (λ (f : Reference). try (cross_layers true f r ts) (λ g. add_cell (system_in s) r g)) leaving-is ∙ ap Adds (sym crossed)
 
-    pub send-refused : (x.refusal ≡ 0 → ⊥) → (q : Served) → q ≡ refusal (withTypes s b) x.refusal → Step s (send (systemIn s) r k ts) q × Went s q.state
+    pub send-refused : (x.refusal ≡ 0 → ⊥) → (q : Served) → q ≡ refusal (with_types s b) x.refusal → Step s (send (system_in s) r k ts) q × Went s q.state
     send-refused z q e = (
       refuses-kept h leaves.long leaves.kept (send-is ∙ ap Adds (refused-is b s.links s.counts x z)) e,
       subst (λ (y : Served). Went s y.state) (sym e) (went-types s b),
@@ -187,42 +187,42 @@ module _ (s : State) (h : Sound s) (r k : ℕ) (c : Cell) (is : cell_of c ≡ ge
         place = m.place;
       }
 
-      pub send-adds : (q : Served) → Step s (addCell (systemIn s) r Arrived) q → Step s (send (systemIn s) r k ts) q × Went s q.state
+      pub send-adds : (q : Served) → Step s (add_cell (system_in s) r Arrived) q → Step s (send (system_in s) r k ts) q × Went s q.state
       send-adds q g = (
         step-as (send-is ∙ ap Adds (came-is b s.links s.counts x z)) g,
-        added_goes s r Arrived (let n : length (placesIn x.places) ≡ x.places.count = places-length x.places in let m = (leaves.came z).before.more in omega arith) q g,
+        added_goes s r Arrived (let n : length (places_in x.places) ≡ x.places.count = places-length x.places in let m = (leaves.came z).before.more in omega arith) q g,
       )
 
 -- ---- One argument.
 module _ (s : State) (h : Sound s) (r : ℕ) (ls : List ℕ) (m i a : ℕ) (v : ℤ) (ts : List (Option ℕ))
-    (are : (l : List ℕ) → ts ≡ map (argumentAt (tableIn s.types l s.counts) m i) ls) (q : Bool)
-    (kind : q ≡ refIn s.counts.types s.types a) where
+    (are : (l : List ℕ) → ts ≡ map (argument_at (table_in s.types l s.counts) m i) ls) (q : Bool)
+    (kind : q ≡ ref_in s.counts.types s.types a) where
   abbrev Either : Bool → List (Option ℕ) → Table → Res (System × Result)
-  Either y os t = elim y [ true ↦ send (systemIn s) r (named v) os | false ↦ try (passLayers true t v os) λ _. ok (systemIn s, nothing) ]
+  Either y os t = elim y [ true ↦ send (system_in s) r (named v) os | false ↦ try (pass_layers true t v os) λ _. ok (system_in s, nothing) ]
 
-  argument_is : sendArgument (systemIn s) r ls m i a v ≡ Either q ts (tableIn s.types s.links s.counts)
+  argument_is : send_argument (system_in s) r ls m i a v ≡ Either q ts (table_in s.types s.links s.counts)
   argument_is =
-      ap (λ (t : Table). Either (isRef (type_at t a).rep) (map (argumentAt t m i) ls) t) (table_is s)
-      ∙ ap (λ (y : Bool). Either y (map (argumentAt (tableIn s.types s.links s.counts) m i) ls) (tableIn s.types s.links s.counts))
+      ap (λ (t : Table). Either (is_ref (type_at t a).rep) (map (argument_at t m i) ls) t) (table_is s)
+      ∙ ap (λ (y : Bool). Either y (map (argument_at (table_in s.types s.links s.counts) m i) ls) (table_in s.types s.links s.counts))
       (ref-table s.types s.links s.counts a ∙ sym kind)
-      ∙ ap (λ (os : List (Option ℕ)). Either q os (tableIn s.types s.links s.counts)) (sym (are s.links))
+      ∙ ap (λ (os : List (Option ℕ)). Either q os (table_in s.types s.links s.counts)) (sym (are s.links))
 
   abbrev Goes : Served → Type 0
-  Goes y = Step s (sendArgument (systemIn s) r ls m i a v) y × Went s y.state
+  Goes y = Step s (send_argument (system_in s) r ls m i a v) y × Went s y.state
 
-  pub argument-sent : q ≡ true → (y : Served) → Step s (send (systemIn s) r (named v) ts) y × Went s y.state → Goes y
+  pub argument-sent : q ≡ true → (y : Served) → Step s (send (system_in s) r (named v) ts) y × Went s y.state → Goes y
   argument-sent z y k = (
-    step-as (argument_is ∙ ap (λ (w : Bool). Either w ts (tableIn s.types s.links s.counts)) z) k.0,
+    step-as (argument_is ∙ ap (λ (w : Bool). Either w ts (table_in s.types s.links s.counts)) z) k.0,
     k.1,
   )
 
-  module _ (z : q ≡ false) (e : ℕ) (passed : (l : List ℕ) → passedOf e ≡ passLayers true (tableIn s.types l s.counts) v ts) where
+  module _ (z : q ≡ false) (e : ℕ) (passed : (l : List ℕ) → passed_of e ≡ pass_layers true (table_in s.types l s.counts) v ts) where
     abbrev Passed : Bool → Res (System × Result)
-    Passed y = try {A = Unit {0}} (elim y [ false ↦ refuse e | true ↦ ok tt ]) λ _. ok (systemIn s, nothing)
+    Passed y = try {A = Unit {0}} (elim y [ false ↦ refuse e | true ↦ ok tt ]) λ _. ok (system_in s, nothing)
 
-    number_is : sendArgument (systemIn s) r ls m i a v ≡ Passed (eqb e 0)
-    number_is = argument_is ∙ ap (λ (w : Bool). Either w ts (tableIn s.types s.links s.counts)) z
-        ∙ ap (λ (y : Res (Unit {0})). try y (λ _. ok (systemIn s, nothing))) (sym (passed s.links))
+    number_is : send_argument (system_in s) r ls m i a v ≡ Passed (eqb e 0)
+    number_is = argument_is ∙ ap (λ (w : Bool). Either w ts (table_in s.types s.links s.counts)) z
+        ∙ ap (λ (y : Res (Unit {0})). try y (λ _. ok (system_in s, nothing))) (sym (passed s.links))
 
     pub number-refused : (e ≡ 0 → ⊥) → (y : Served) → y ≡ refusal s e → Goes y
     number-refused w y u = (refuses h (number_is ∙ ap Passed (ne_eqb e 0 w)) u, subst (λ (k : Served). Went s k.state) (sym u) (went-self s))
@@ -235,101 +235,101 @@ module _ (s : State) (h : Sound s) (r : ℕ) (ls : List ℕ) (m i a : ℕ) (v : 
 
 -- ---- All arguments.
 send-step : (s : System) (r : ℕ) (ls : List ℕ) (m i a : ℕ) (xs : List ℕ) (v : ℤ) (vs : List ℤ) →
-    sendArguments s r ls m i (a ∷ xs) (v ∷ vs) ≡ try (sendArgument s r ls m i a v) (λ x. sendArguments x.0 r ls m (suc i) xs vs)
-unfolding sendArguments
-send-step s r ls m i a xs v vs = go (isRef (type_at s.table a).rep)
+    send_arguments s r ls m i (a ∷ xs) (v ∷ vs) ≡ try (send_argument s r ls m i a v) (λ x. send_arguments x.0 r ls m (suc i) xs vs)
+unfolding send_arguments
+send-step s r ls m i a xs v vs = go (is_ref (type_at s.table a).rep)
   where
     ts : List (Option ℕ)
-    ts = map (argumentAt s.table m i) ls
+    ts = map (argument_at s.table m i) ls
 
     rest : System → Res System
-    rest x = sendArguments x r ls m (suc i) xs vs
+    rest x = send_arguments x r ls m (suc i) xs vs
 
     number : (y : Res (Unit {0})) → try y (λ _. rest s) ≡ try {A = System × Result} (try y (λ _. ok (s, nothing))) (λ x. rest x.0)
     number (refuse e) = refl
     number (ok u) = refl
 
-    go : (y : Bool) → ◌≡◌ {A = Res System} (elim y [ true ↦ try (send s r (named v) ts) (λ x. rest x.0) | false ↦ try (passLayers true s.table v ts) λ _. rest s ])
-        (try {A = System × Result} (elim y [ true ↦ send s r (named v) ts | false ↦ try (passLayers true s.table v ts) λ _. ok (s, nothing) ]) (λ x. rest x.0))
+    go : (y : Bool) → ◌≡◌ {A = Res System} (elim y [ true ↦ try (send s r (named v) ts) (λ x. rest x.0) | false ↦ try (pass_layers true s.table v ts) λ _. rest s ])
+        (try {A = System × Result} (elim y [ true ↦ send s r (named v) ts | false ↦ try (pass_layers true s.table v ts) λ _. ok (s, nothing) ]) (λ x. rest x.0))
     go true = refl
-    go false = number (passLayers true s.table v ts)
+    go false = number (pass_layers true s.table v ts)
 
-sent-over : (s : System) (r : ℕ) (ls : List ℕ) (m i : ℕ) (vs : List ℤ) → sendArguments s r ls m i [] vs ≡ ok s
-unfolding sendArguments
+sent-over : (s : System) (r : ℕ) (ls : List ℕ) (m i : ℕ) (vs : List ℤ) → send_arguments s r ls m i [] vs ≡ ok s
+unfolding send_arguments
 sent-over s r ls m i vs = refl
 
-sent-all : (s : System) (r : ℕ) (ls : List ℕ) (m i : ℕ) (xs : List ℕ) → sendArguments s r ls m i xs [] ≡ ok s
-unfolding sendArguments
+sent-all : (s : System) (r : ℕ) (ls : List ℕ) (m i : ℕ) (xs : List ℕ) → send_arguments s r ls m i xs [] ≡ ok s
+unfolding send_arguments
 sent-all s r ls m i [] = refl
 sent-all s r ls m i (a ∷ xs) = refl
 
 -- ---- The numbers in front of the first reference.
-number-first : (s : System) (r : ℕ) (ls : List ℕ) (m i a : ℕ) (xs : List ℕ) (v : ℤ) (vs : List ℤ) → isRef (type_at s.table a).rep ≡ false →
-    sendArguments s r ls m i (a ∷ xs) (v ∷ vs) ≡ try (passLayers true s.table v (map (argumentAt s.table m i) ls)) (λ _. sendArguments s r ls m (suc i) xs vs)
-unfolding sendArguments
+number-first : (s : System) (r : ℕ) (ls : List ℕ) (m i a : ℕ) (xs : List ℕ) (v : ℤ) (vs : List ℤ) → is_ref (type_at s.table a).rep ≡ false →
+    send_arguments s r ls m i (a ∷ xs) (v ∷ vs) ≡ try (pass_layers true s.table v (map (argument_at s.table m i) ls)) (λ _. send_arguments s r ls m (suc i) xs vs)
+unfolding send_arguments
 number-first s r ls m i a xs v vs e = ap Kind e
   where
     Kind : Bool → Res System
     Kind y = elim y [
-      | true ↦ try (send s r (named v) (map (argumentAt s.table m i) ls)) λ x. sendArguments x.0 r ls m (suc i) xs vs
-      | false ↦ try (passLayers true s.table v (map (argumentAt s.table m i) ls)) λ _. sendArguments s r ls m (suc i) xs vs
+      | true ↦ try (send s r (named v) (map (argument_at s.table m i) ls)) λ x. send_arguments x.0 r ls m (suc i) xs vs
+      | false ↦ try (pass_layers true s.table v (map (argument_at s.table m i) ls)) λ _. send_arguments s r ls m (suc i) xs vs
     ]
 
 module _ (s : System) (r : ℕ) (ls : List ℕ) (m : ℕ) (xs : List ℕ) (vs : List ℤ) where
   -- all arguments come to what those from i on come to
   abbrev pub NumbersRest : ℕ → Type 0
-  NumbersRest i = sendArguments s r ls m i (drop i xs) (drop i vs) ≡ sendArguments s r ls m 0 xs vs
+  NumbersRest i = send_arguments s r ls m i (drop i xs) (drop i vs) ≡ send_arguments s r ls m 0 xs vs
 
   module _ (i : ℕ) (w : NumbersRest i) where
-    pub numbers-over : drop i xs ≡ [] → sendArguments s r ls m 0 xs vs ≡ ok s
-    numbers-over e = sym w ∙ ap (λ (ys : List ℕ). sendArguments s r ls m i ys (drop i vs)) e ∙ sent-over s r ls m i (drop i vs)
+    pub numbers-over : drop i xs ≡ [] → send_arguments s r ls m 0 xs vs ≡ ok s
+    numbers-over e = sym w ∙ ap (λ (ys : List ℕ). send_arguments s r ls m i ys (drop i vs)) e ∙ sent-over s r ls m i (drop i vs)
 
-    pub numbers-end : drop i vs ≡ [] → sendArguments s r ls m 0 xs vs ≡ ok s
-    numbers-end e = sym w ∙ ap (sendArguments s r ls m i (drop i xs)) e ∙ sent-all s r ls m i (drop i xs)
+    pub numbers-end : drop i vs ≡ [] → send_arguments s r ls m 0 xs vs ≡ ok s
+    numbers-end e = sym w ∙ ap (send_arguments s r ls m i (drop i xs)) e ∙ sent-all s r ls m i (drop i xs)
 
-    module _ (a : ℕ) (some : drop i xs ≡ a ∷ drop (i + 1) xs) (v : ℤ) (more : drop i vs ≡ v ∷ drop (i + 1) vs) (number : isRef (type_at s.table a).rep ≡ false)
-        (e : ℕ) (passed : passedOf e ≡ passLayers true s.table v (map (argumentAt s.table m i) ls)) where
+    module _ (a : ℕ) (some : drop i xs ≡ a ∷ drop (i + 1) xs) (v : ℤ) (more : drop i vs ≡ v ∷ drop (i + 1) vs) (number : is_ref (type_at s.table a).rep ≡ false)
+        (e : ℕ) (passed : passed_of e ≡ pass_layers true s.table v (map (argument_at s.table m i) ls)) where
       abbrev Behind : Bool → Res System
-      Behind y = try {A = Unit {0}} (elim y [ false ↦ refuse e | true ↦ ok tt ]) λ _. sendArguments s r ls m (suc i) (drop (i + 1) xs) (drop (i + 1) vs)
+      Behind y = try {A = Unit {0}} (elim y [ false ↦ refuse e | true ↦ ok tt ]) λ _. send_arguments s r ls m (suc i) (drop (i + 1) xs) (drop (i + 1) vs)
 
-      numbers-are : sendArguments s r ls m 0 xs vs ≡ Behind (eqb e 0)
+      numbers-are : send_arguments s r ls m 0 xs vs ≡ Behind (eqb e 0)
       numbers-are =
-          sym w ∙ ap (λ (ys : List ℕ). sendArguments s r ls m i ys (drop i vs)) some ∙ ap (sendArguments s r ls m i (a ∷ drop (i + 1) xs)) more
+          sym w ∙ ap (λ (ys : List ℕ). send_arguments s r ls m i ys (drop i vs)) some ∙ ap (send_arguments s r ls m i (a ∷ drop (i + 1) xs)) more
           ∙ number-first s r ls m i a (drop (i + 1) xs) v (drop (i + 1) vs) number
-          ∙ ap (λ (y : Res (Unit {0})). try y (λ _. sendArguments s r ls m (suc i) (drop (i + 1) xs) (drop (i + 1) vs))) (sym passed)
+          ∙ ap (λ (y : Res (Unit {0})). try y (λ _. send_arguments s r ls m (suc i) (drop (i + 1) xs) (drop (i + 1) vs))) (sym passed)
 
-      pub numbers-stop : (e ≡ 0 → ⊥) → sendArguments s r ls m 0 xs vs ≡ refuse e
+      pub numbers-stop : (e ≡ 0 → ⊥) → send_arguments s r ls m 0 xs vs ≡ refuse e
       numbers-stop z = numbers-are ∙ ap Behind (ne_eqb e 0 z)
 
       pub numbers-next : e ≡ 0 → NumbersRest (i + 1)
-      numbers-next z = ap (λ (n : ℕ). sendArguments s r ls m n (drop (i + 1) xs) (drop (i + 1) vs)) (add-one i) ∙ sym (numbers-are ∙ ap Behind (eq-eqb e 0 z))
+      numbers-next z = ap (λ (n : ℕ). send_arguments s r ls m n (drop (i + 1) xs) (drop (i + 1) vs)) (add-one i) ∙ sym (numbers-are ∙ ap Behind (eq-eqb e 0 z))
 
 -- the state of which the lent types and the counts are part has their table
 module _ (s : State) (b : List ℕ) (c : Counts) (t : s.types ≡ b) (n : s.counts ≡ c) where
-  pub table-of : (systemIn s).table ≡ tableIn b s.links c
-  table-of = table_is s ∙ ap (λ (x : List ℕ). tableIn x s.links s.counts) t ∙ ap (tableIn b s.links) n
+  pub table-of : (system_in s).table ≡ table_in b s.links c
+  table-of = table_is s ∙ ap (λ (x : List ℕ). table_in x s.links s.counts) t ∙ ap (table_in b s.links) n
 
-  pub number_of : (a : ℕ) (q : Bool) → q ≡ refIn c.types b a → q ≡ false → isRef (type_at (systemIn s).table a).rep ≡ false
-  number_of a q is z = ap (λ (x : Table). isRef (type_at x a).rep) table-of ∙ ref-table b s.links c a ∙ sym is ∙ z
+  pub number_of : (a : ℕ) (q : Bool) → q ≡ ref_in c.types b a → q ≡ false → is_ref (type_at (system_in s).table a).rep ≡ false
+  number_of a q is z = ap (λ (x : Table). is_ref (type_at x a).rep) table-of ∙ ref-table b s.links c a ∙ sym is ∙ z
 
-  pub passed-of : (e m i : ℕ) (v : ℤ) (ls : List ℕ) (ts : List (Option ℕ)) → ((l : List ℕ) → ts ≡ map (argumentAt (tableIn b l c) m i) ls) →
-      ((l : List ℕ) → passedOf e ≡ passLayers true (tableIn b l c) v ts) → passedOf e ≡ passLayers true (systemIn s).table v (map (argumentAt (systemIn s).table m i) ls)
+  pub passed-of : (e m i : ℕ) (v : ℤ) (ls : List ℕ) (ts : List (Option ℕ)) → ((l : List ℕ) → ts ≡ map (argument_at (table_in b l c) m i) ls) →
+      ((l : List ℕ) → passed_of e ≡ pass_layers true (table_in b l c) v ts) → passed_of e ≡ pass_layers true (system_in s).table v (map (argument_at (system_in s).table m i) ls)
   passed-of e m i v ls ts are is =
-      is s.links ∙ ap (passLayers true (tableIn b s.links c) v) (are s.links) ∙ ap (λ (x : Table). passLayers true x v (map (argumentAt x m i) ls)) (sym table-of)
+      is s.links ∙ ap (pass_layers true (table_in b s.links c) v) (are s.links) ∙ ap (λ (x : Table). pass_layers true x v (map (argument_at x m i) ls)) (sym table-of)
 
 module _ (s₀ : State) (r : ℕ) (ls : List ℕ) (m : ℕ) (xs : List ℕ) (vs : List ℤ) where
   abbrev All : Res (System × Result)
-  All = allSent (sendArguments (systemIn s₀) r ls m 0 xs vs)
+  All = all_sent (send_arguments (system_in s₀) r ls m 0 xs vs)
 
   abbrev Rest : System → ℕ → List ℕ → List ℤ → Res (System × Result)
-  Rest s i ys us = allSent (sendArguments s r ls m i ys us)
+  Rest s i ys us = all_sent (send_arguments s r ls m i ys us)
 
   -- all arguments are sent as those from i on, by the state as it has become
   pub record Sends (s : State) (i : ℕ) : Type 0 where
     pub sound : Sound s
     pub stored : Stored s₀ s
     pub went : Went s₀ s
-    pub rest : Rest (systemIn s) i (drop i xs) (drop i vs) ≡ All
+    pub rest : Rest (system_in s) i (drop i xs) (drop i vs) ≡ All
 
   abbrev Done : Served → Type 0
   Done q = Sent s₀ All q
@@ -342,26 +342,26 @@ module _ (s₀ : State) (r : ℕ) (ls : List ℕ) (m : ℕ) (xs : List ℕ) (vs 
     pub sends-room : 0 < s₀.places.count → 0 < s₀.counts.types → (0 < s.places.count) × (0 < s.counts.types)
     sends-room p t = (omega (arith, p, w.went.places), omega (arith, t, w.stored.grew.more))
 
-    done : Rest (systemIn s) i (drop i xs) (drop i vs) ≡ ok (systemIn s, nothing) → Done (record { outcome = Nothing; state = s })
+    done : Rest (system_in s) i (drop i xs) (drop i vs) ≡ ok (system_in s, nothing) → Done (record { outcome = Nothing; state = s })
     done e = record { is = sym e ∙ w.rest; stored = w.stored; sound = w.sound; went = w.went }
 
     pub sends-over : drop i xs ≡ [] → Done (record { outcome = Nothing; state = s })
-    sends-over e = done (ap (λ (ys : List ℕ). Rest (systemIn s) i ys (drop i vs)) e ∙ ap allSent (sent-over (systemIn s) r ls m i (drop i vs)))
+    sends-over e = done (ap (λ (ys : List ℕ). Rest (system_in s) i ys (drop i vs)) e ∙ ap all_sent (sent-over (system_in s) r ls m i (drop i vs)))
 
     pub sends-end : drop i vs ≡ [] → Done (record { outcome = Nothing; state = s })
-    sends-end e = done (ap (Rest (systemIn s) i (drop i xs)) e ∙ ap allSent (sent-all (systemIn s) r ls m i (drop i xs)))
+    sends-end e = done (ap (Rest (system_in s) i (drop i xs)) e ∙ ap all_sent (sent-all (system_in s) r ls m i (drop i xs)))
 
     module _ (a : ℕ) (some : drop i xs ≡ a ∷ drop (i + 1) xs) (v : ℤ) (more : drop i vs ≡ v ∷ drop (i + 1) vs)
-        (q : Served) (k : Step s (sendArgument (systemIn s) r ls m i a v) q) (g : Went s q.state) where
+        (q : Served) (k : Step s (send_argument (system_in s) r ls m i a v) q) (g : Went s q.state) where
       abbrev After : System → Res System
-      After x = sendArguments x r ls m (suc i) (drop (i + 1) xs) (drop (i + 1) vs)
+      After x = send_arguments x r ls m (suc i) (drop (i + 1) xs) (drop (i + 1) vs)
 
-      go_on : All ≡ allSent (try (servedAs q) (λ x. After x.0))
+      go_on : All ≡ all_sent (try (served_as q) (λ x. After x.0))
       go_on =
-          sym w.rest ∙ ap (λ (ys : List ℕ). Rest (systemIn s) i ys (drop i vs)) some ∙ ap (Rest (systemIn s) i (a ∷ drop (i + 1) xs)) more
-          ∙ ap allSent (send-step (systemIn s) r ls m i a (drop (i + 1) xs) v (drop (i + 1) vs) ∙ ap (λ (y : Res (System × Result)). try y (λ x. After x.0)) (sym k.is))
+          sym w.rest ∙ ap (λ (ys : List ℕ). Rest (system_in s) i ys (drop i vs)) some ∙ ap (Rest (system_in s) i (a ∷ drop (i + 1) xs)) more
+          ∙ ap all_sent (send-step (system_in s) r ls m i a (drop (i + 1) xs) v (drop (i + 1) vs) ∙ ap (λ (y : Res (System × Result)). try y (λ x. After x.0)) (sym k.is))
 
-      pub sends-stop : isAccepted q.outcome ≡ false → Done q
+      pub sends-stop : is_accepted q.outcome ≡ false → Done q
       sends-stop z = record {
         is = stopped q.outcome z ∙ sym go_on;
         stored = stored_on s₀ s q.state w.stored k.stored;
@@ -369,13 +369,13 @@ module _ (s₀ : State) (r : ℕ) (ls : List ℕ) (m : ℕ) (xs : List ℕ) (vs 
         went = went_on s₀ s q.state w.went g;
       }
         where
-          stopped : (y : Outcome) → isAccepted y ≡ false → servedWith (systemIn q.state) (outcomeOf y) ≡ allSent (try (servedWith (systemIn q.state) (outcomeOf y)) (λ x. After x.0))
-          stopped = only-refused (λ (y : Outcome). servedWith (systemIn q.state) (outcomeOf y) ≡ allSent (try (servedWith (systemIn q.state) (outcomeOf y)) (λ x. After x.0))) (λ e. refl)
+          stopped : (y : Outcome) → is_accepted y ≡ false → served_with (system_in q.state) (outcome_of y) ≡ all_sent (try (served_with (system_in q.state) (outcome_of y)) (λ x. After x.0))
+          stopped = only-refused (λ (y : Outcome). served_with (system_in q.state) (outcome_of y) ≡ all_sent (try (served_with (system_in q.state) (outcome_of y)) (λ x. After x.0))) (λ e. refl)
 
-      pub sends-next : isAccepted q.outcome ≡ true → Sends q.state (i + 1)
+      pub sends-next : is_accepted q.outcome ≡ true → Sends q.state (i + 1)
       sends-next z = record {
         sound = k.sound;
         stored = stored_on s₀ s q.state w.stored k.stored;
         went = went_on s₀ s q.state w.went g;
-        rest = ap (λ (n : ℕ). Rest (systemIn q.state) n (drop (i + 1) xs) (drop (i + 1) vs)) (add-one i) ∙ sym (go_on ∙ ap allSent (goes_on q.outcome (systemIn q.state) After z));
+        rest = ap (λ (n : ℕ). Rest (system_in q.state) n (drop (i + 1) xs) (drop (i + 1) vs)) (add-one i) ∙ sym (go_on ∙ ap all_sent (goes_on q.outcome (system_in q.state) After z));
       }

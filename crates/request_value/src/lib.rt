@@ -2,14 +2,14 @@
 // C11, C17; A8, A10).
 ghost use Rattle.std.specs.Prelude.{◌≡◌, ℕ, ◌≤◌, ◌<◌, pos, get_or};
 ghost use Rattle.spec_model.specs.Basics.{named};
-ghost use Rattle.spec_model.specs.Requests.{noCell, send, sendArguments, maxCells};
+ghost use Rattle.spec_model.specs.Requests.{no_cell, send, send_arguments, max_cells};
 ghost use Rattle.table_record.specs.Limits.{Limits};
 ghost use Rattle.state_record.specs.Whole.{Whole, whole};
-ghost use Rattle.state_record.specs.View.{cell_of, cells_in, systemIn};
+ghost use Rattle.state_record.specs.View.{cell_of, cells_in, system_in};
 ghost use Rattle.state_record.specs.Sound.{Sound};
-ghost use Rattle.crossing_targets.specs.Targets.{callLayersIn, targetsIn, maxLayers};
+ghost use Rattle.crossing_targets.specs.Targets.{call_layers_in, targets_in, max_layers};
 ghost use Rattle.request_common.specs.Served.{Step, done};
-ghost use Rattle.request_value.specs.Sent.{argumentsOf, sendArgument, allSent, Went, Sent, Passes};
+ghost use Rattle.request_value.specs.Sent.{arguments_of, send_argument, all_sent, Went, Sent, Passes};
 
 use base_numbers::{index_of, wide};
 use crossing_targets::{CallLayers, Slot, Targets};
@@ -30,8 +30,8 @@ fn from_zero(v: i64) -> i64
 // The cell that v names. Where it names none it is read as one of zeros, as in the model. No state that passed the check comes to that (H6, C5), but `Sound`
 // says nothing of signatures.
 fn named_cell(cs: Cells, v: i64) -> Cell
-    requires { cs.count ≤ maxCells }
-    ensures { cell_of result ≡ get_or (cells_in cs) (named v) noCell }
+    requires { cs.count ≤ max_cells }
+    ensures { cell_of result ≡ get_or (cells_in cs) (named v) no_cell }
 {
     let k = index_of(from_zero(v), cs.count);
     if k < cs.count {
@@ -46,8 +46,8 @@ fn named_cell(cs: Cells, v: i64) -> Cell
 
 // The reference in the cell that v names crosses to each target and becomes a cell of r (C11, C17; A8, A10).
 pub fn send(types: &mut [u8; TYPE_BYTES], s: State, r: usize, v: i64, targets: Targets) -> Served
-    requires { Sound (whole types.old s) × (0 < s.places.count) × (0 < s.counts.types) × (r < 256) × (targets.count ≤ maxLayers) }
-    ensures { Step (whole types.old s) (send (systemIn (whole types.old s)) r (named v) (targetsIn targets))
+    requires { Sound (whole types.old s) × (0 < s.places.count) × (0 < s.counts.types) × (r < 256) × (targets.count ≤ max_layers) }
+    ensures { Step (whole types.old s) (send (system_in (whole types.old s)) r (named v) (targets_in targets))
         (done types.new result)
         × Went (whole types.old s) (whole types.new result.state) }
 {
@@ -82,8 +82,8 @@ fn send_argument(
     a: usize,
     v: i64,
 ) -> Served
-    requires { Sound (whole types.old s) × (0 < s.places.count) × (0 < s.counts.types) × (r < 256) × (w.count ≤ maxLayers) }
-    ensures { Step (whole types.old s) (sendArgument (systemIn (whole types.old s)) r (callLayersIn w) m i a v)
+    requires { Sound (whole types.old s) × (0 < s.places.count) × (0 < s.counts.types) × (r < 256) × (w.count ≤ max_layers) }
+    ensures { Step (whole types.old s) (send_argument (system_in (whole types.old s)) r (call_layers_in w) m i a v)
         (done types.new result)
         × Went (whole types.old s) (whole types.new result.state) }
 {
@@ -119,9 +119,9 @@ pub fn pass_numbers(
     x: Method,
     vs: &[i64],
 ) -> Numbers
-    requires { Limits c × (w.count ≤ maxLayers) }
+    requires { Limits c × (w.count ≤ max_layers) }
     ensures { (s : Whole) (r : ℕ) → s.types ≡ types.now → s.counts ≡ c
-        → Passes (systemIn s) (sendArguments (systemIn s) r (callLayersIn w) m 0 (argumentsOf x) vs.now) result }
+        → Passes (system_in s) (send_arguments (system_in s) r (call_layers_in w) m 0 (arguments_of x) vs.now) result }
 {
     let n = vs.len();
     let mut i: usize = 0;
@@ -153,9 +153,9 @@ pub fn send_arguments(
     x: Method,
     vs: &[i64],
 ) -> Served
-    requires { Sound (whole types.old s) × (0 < s.places.count) × (0 < s.counts.types) × (r < 256) × (w.count ≤ maxLayers) }
+    requires { Sound (whole types.old s) × (0 < s.places.count) × (0 < s.counts.types) × (r < 256) × (w.count ≤ max_layers) }
     ensures { Sent (whole types.old s)
-        (allSent (sendArguments (systemIn (whole types.old s)) r (callLayersIn w) m 0 (argumentsOf x) vs.now))
+        (all_sent (send_arguments (system_in (whole types.old s)) r (call_layers_in w) m 0 (arguments_of x) vs.now))
         (done types.new result) }
 {
     let n = vs.len();

@@ -2,7 +2,7 @@
 use Rattle.std.specs.Prelude.{cond, List, ℕ, ◌+◌, ◌-◌, ◌<◌, ltb, ℤ, pos, length, get_or, take, drop}
 use Rattle.std.proofs.Math.Option.{Option, none}
 use Rattle.spec_model.specs.Requests.{Request}
-use Rattle.base_numbers.specs.Index.{indexOf}
+use Rattle.base_numbers.specs.Index.{index_of}
 use Rattle.request_common.specs.declared.Outcome.{Outcome}
 use Rattle.request_common.specs.declared.Outcome.TheVariants.{Refused, Pair, Number, Nothing}
 use Rattle.request_words.specs.Words.{request}
@@ -20,12 +20,12 @@ abbrev pub left_at : List ℤ → ℕ → ℕ
 left_at ws at = length ws - at - 1
 
 -- how many operands it has: as many as the words behind its code where there are not so many
-abbrev pub countAt : List ℤ → ℕ → ℕ
-countAt ws at = indexOf (get_or ws (at + 1) (pos 0)) (left_at ws at)
+abbrev pub count_at : List ℤ → ℕ → ℕ
+count_at ws at = index_of (get_or ws (at + 1) (pos 0)) (left_at ws at)
 
-abbrev pub askedAt : List ℤ → ℕ → Option Request
-askedAt ws at = cond (ltb (countAt ws at) (left_at ws at)) (request (get_or ws at (pos 0)) (take (countAt ws at) (drop (at + 2) ws))) none
+abbrev pub asked_at : List ℤ → ℕ → Option Request
+asked_at ws at = cond (ltb (count_at ws at) (left_at ws at)) (request (get_or ws at (pos 0)) (take (count_at ws at) (drop (at + 2) ws))) none
 
 -- where the next one begins
 abbrev pub next_at : List ℤ → ℕ → ℕ
-next_at ws at = cond (ltb (countAt ws at) (left_at ws at)) (at + 2 + countAt ws at) (length ws)
+next_at ws at = cond (ltb (count_at ws at) (left_at ws at)) (at + 2 + count_at ws at) (length ws)

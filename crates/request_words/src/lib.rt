@@ -1,9 +1,9 @@
 // Words of a run: where a request stands in a list of them (U2, U7), and an outcome as four (U8). Nothing is served here.
 ghost use Rattle.std.specs.Prelude.{◌≡◌, [], ◌∷◌, ◌+◌, ◌≤◌, ◌<◌, pos, length};
 ghost use Rattle.std.proofs.lemmas.List.Edits.{sets};
-ghost use Rattle.request_common.specs.Outcome.{outcomeOf};
-ghost use Rattle.request_words.specs.Words.{outcomeSize, words_of};
-ghost use Rattle.request_words.specs.Found.{SmallOutcome, countAt, next_at};
+ghost use Rattle.request_common.specs.Outcome.{outcome_of};
+ghost use Rattle.request_words.specs.Words.{outcome_size, words_of};
+ghost use Rattle.request_words.specs.Found.{SmallOutcome, count_at, next_at};
 
 use base_numbers::index_of;
 use request_common::Outcome;
@@ -16,7 +16,7 @@ fn word(n: usize) -> i64
 }
 
 fn put_words(out: &mut [i64], at: usize, first: i64, second: i64, third: i64, fourth: i64)
-    requires { at + outcomeSize ≤ length out.old }
+    requires { at + outcome_size ≤ length out.old }
     ensures { out.new ≡ sets out.old at (first ∷ second ∷ third ∷ fourth ∷ []) }
 {
     out[at] = first;
@@ -27,8 +27,8 @@ fn put_words(out: &mut [i64], at: usize, first: i64, second: i64, third: i64, fo
 
 // An outcome as four words (U8).
 pub fn put_outcome(out: &mut [i64], at: usize, a: Outcome)
-    requires { (at + outcomeSize ≤ length out.old) × SmallOutcome a }
-    ensures { out.new ≡ sets out.old at (words_of (outcomeOf a)) }
+    requires { (at + outcome_size ≤ length out.old) × SmallOutcome a }
+    ensures { out.new ≡ sets out.old at (words_of (outcome_of a)) }
 {
     match a {
         Outcome::Refused(e) => put_words(out, at, word(e), 0, 0, 0),
@@ -41,7 +41,7 @@ pub fn put_outcome(out: &mut [i64], at: usize, a: Outcome)
 // How many operands the request at `at` has (U2); as many as there are words behind its code where that says it has more, or nothing says it (U7).
 pub fn operands(words: &[i64], at: usize) -> usize
     requires { at < length words.now }
-    ensures { result ≡ countAt words.now at }
+    ensures { result ≡ count_at words.now at }
 {
     let left = words.len() - at - 1;
     if left == 0 {

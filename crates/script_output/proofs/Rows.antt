@@ -8,10 +8,10 @@ use lib.Dec.{eqb}
 use lib.ListN.{length, drop, length-drop, drop_of_length-le}
 use lib.Seq.{drop-drop}
 use borrow.Author.Tests.{eqb-true}
-use Rattle.spec_sheet.specs.Lines.{Row, row, cut, push, split, firstLine, same}
-use Rattle.spec_sheet.specs.Text.{endText}
+use Rattle.spec_sheet.specs.Lines.{Row, row, cut, push, split, first_line, same}
+use Rattle.spec_sheet.specs.Text.{end_text}
 use Rattle.text_cursor.specs.View.{LineAt, past}
-use Rattle.script_output.specs.Output.{endFrom, sheetEnd}
+use Rattle.script_output.specs.Output.{end_from, sheet_end}
 
 -- ---- what the rows of xs say of xs
 abbrev Shape : List ℕ → List Row → Type 0
@@ -50,7 +50,7 @@ module _ (s : List ℕ) (at : ℕ) (l : List ℕ) (h : LineAt s at l) (k : at < 
   -- the first row is l
   row_is : (m : List ℕ) (rs : List Row) → split (drop at s) ≡ row m ∷ rs → Shape (drop at s) (row m ∷ rs) → split (drop at s) ≡ row l ∷ split (drop (at + (length l + 1)) s)
   row_is m rs e x =
-      let w : l ≡ m = h.is ∙ ap firstLine e in
+      let w : l ≡ m = h.is ∙ ap first_line e in
       e ∙ ap (λ z. row m ∷ z) x.1 ∙ ap (λ z. row m ∷ split z) (drop-drop (length m + 1) at s) ∙ ap (λ (z : List ℕ). row z ∷ split (drop (at + (length z + 1)) s)) (sym w)
 
   pub line-some : 0 < length l → split (drop at s) ≡ row l ∷ split (drop (at + (length l + 1)) s)
@@ -60,8 +60,8 @@ module _ (s : List ℕ) (at : ℕ) (l : List ℕ) (h : LineAt s at l) (k : at < 
       none e = let z : length l ≡ 0 = ap length e in absurd (omega arith)
 
       go : (rs : List Row) → split (drop at s) ≡ rs → Shape (drop at s) rs → split (drop at s) ≡ row l ∷ split (drop (at + (length l + 1)) s)
-      go [] e x = none (h.is ∙ ap firstLine e)
-      go (cut m ∷ rs) e x = none (h.is ∙ ap firstLine e)
+      go [] e x = none (h.is ∙ ap first_line e)
+      go (cut m ∷ rs) e x = none (h.is ∙ ap first_line e)
       go (row m ∷ rs) e x = row_is m rs e x
 
   -- ---- `next` is where the cursor stands behind it: it has passed the row, or no LF ends one
@@ -73,7 +73,7 @@ module _ (s : List ℕ) (at : ℕ) (l : List ℕ) (h : LineAt s at l) (k : at < 
         go [] e x = some_left x
         go (cut m ∷ rs) e x = absurd (g (n ∙ ap (past at) e))
         go (row m ∷ rs) e x =
-            let w : l ≡ m = h.is ∙ ap firstLine e in
+            let w : l ≡ m = h.is ∙ ap first_line e in
             let q : next ≡ at + (length l + 1) = n ∙ ap (past at) e ∙ ap (λ (z : List ℕ). at + (length z + 1)) (sym w) in
             (q, row_is m rs e x ∙ ap (λ z. row l ∷ split (drop z s)) (sym q))
 
@@ -89,28 +89,28 @@ module _ (s : List ℕ) (at : ℕ) (l : List ℕ) (h : LineAt s at l) (k : at < 
     next-within g = let q = (line_row g).0 in let w = line-within in (omega (arith, q), omega (arith, q, w))
 
     -- ---- where the sheet ends
-    module _ (inv : sheetEnd s ≡ endFrom at (split (drop at s))) where
-      pub end-cut : next ≡ at → length s ≡ sheetEnd s
-      unfolding endFrom
+    module _ (inv : sheet_end s ≡ end_from at (split (drop at s))) where
+      pub end-cut : next ≡ at → length s ≡ sheet_end s
+      unfolding end_from
       end-cut g =
           let d : length (drop at s) ≡ length s - at = length-drop at s in
           let e : at + length (drop at s) ≡ length s = omega arith in
-          sym (inv ∙ ap (endFrom at) (line-cut g) ∙ e)
+          sym (inv ∙ ap (end_from at) (line-cut g) ∙ e)
 
-      by_row : (next ≡ at → ⊥) → sheetEnd s ≡ cond (same endText l) next (endFrom next (split (drop next s)))
-      unfolding endFrom
-      by_row g = inv ∙ ap (endFrom at) (line_row g).1 ∙ ap (λ z. cond (same endText l) z (endFrom z (split (drop next s)))) (sym (line_row g).0)
+      by_row : (next ≡ at → ⊥) → sheet_end s ≡ cond (same end_text l) next (end_from next (split (drop next s)))
+      unfolding end_from
+      by_row g = inv ∙ ap (end_from at) (line_row g).1 ∙ ap (λ z. cond (same end_text l) z (end_from z (split (drop next s)))) (sym (line_row g).0)
 
-      pub end-here : (b : Bool) → (next ≡ at → ⊥) → b ≡ same endText l → b ≡ true → next ≡ sheetEnd s
-      end-here b g q t = sym (by_row g ∙ ap (λ z. cond z next (endFrom next (split (drop next s)))) (sym q ∙ t))
+      pub end-here : (b : Bool) → (next ≡ at → ⊥) → b ≡ same end_text l → b ≡ true → next ≡ sheet_end s
+      end-here b g q t = sym (by_row g ∙ ap (λ z. cond z next (end_from next (split (drop next s)))) (sym q ∙ t))
 
-      pub end-next : (b : Bool) → (next ≡ at → ⊥) → b ≡ same endText l → b ≡ false → sheetEnd s ≡ endFrom next (split (drop next s))
-      end-next b g q t = by_row g ∙ ap (λ z. cond z next (endFrom next (split (drop next s)))) (sym q ∙ t)
+      pub end-next : (b : Bool) → (next ≡ at → ⊥) → b ≡ same end_text l → b ≡ false → sheet_end s ≡ end_from next (split (drop next s))
+      end-next b g q t = by_row g ∙ ap (λ z. cond z next (end_from next (split (drop next s)))) (sym q ∙ t)
 
-pub end-starts : (s : List ℕ) → sheetEnd s ≡ endFrom 0 (split (drop 0 s))
-unfolding sheetEnd
+pub end-starts : (s : List ℕ) → sheet_end s ≡ end_from 0 (split (drop 0 s))
+unfolding sheet_end
 end-starts s = refl
 
-pub end-all : (s : List ℕ) (at : ℕ) → at ≤ length s → length s ≤ at → sheetEnd s ≡ endFrom at (split (drop at s)) → at ≡ sheetEnd s
-unfolding endFrom split
-end-all s at p q inv = sym (inv ∙ ap (λ z. endFrom at (split z)) (drop_of_length-le s {i = at} q))
+pub end-all : (s : List ℕ) (at : ℕ) → at ≤ length s → length s ≤ at → sheet_end s ≡ end_from at (split (drop at s)) → at ≡ sheet_end s
+unfolding end_from split
+end-all s at p q inv = sym (inv ∙ ap (λ z. end_from at (split z)) (drop_of_length-le s {i = at} q))

@@ -5,17 +5,17 @@ ghost use Rattle.std.specs.Prelude.{◌≡◌, cond, List, [], ◌∷◌, ◌+�
 ghost use Rattle.std.proofs.Math.Option.{Option};
 ghost use Rattle.spec_model.specs.Requests.{Request};
 ghost use Rattle.spec_sheet.specs.Lines.{split};
-ghost use Rattle.spec_sheet.specs.Text.{writeText};
+ghost use Rattle.spec_sheet.specs.Text.{write_text};
 ghost use Rattle.state_record.specs.Whole.{whole};
-ghost use Rattle.state_record.specs.View.{systemIn};
+ghost use Rattle.state_record.specs.View.{system_in};
 ghost use Rattle.state_record.specs.Sound.{Sound};
 ghost use Rattle.request_common.specs.Served.{Step, done};
-ghost use Rattle.request_by_code.specs.Coded.{serveAsked};
-ghost use Rattle.script_read_request.specs.Asked.{maxOperands};
-ghost use Rattle.script_read_request.specs.Read.{askedAs};
+ghost use Rattle.request_by_code.specs.Coded.{serve_asked};
+ghost use Rattle.script_read_request.specs.Asked.{max_operands};
+ghost use Rattle.script_read_request.specs.Read.{asked_as};
 ghost use Rattle.text_write.specs.Fill.{Filled, Lined};
 ghost use Rattle.text_write.specs.Written.{written_of};
-ghost use Rattle.script_output.specs.Output.{maxInput, sheetEnd, scriptOutput};
+ghost use Rattle.script_output.specs.Output.{max_input, sheet_end, script_output};
 ghost use Rattle.script_output.specs.Parts.{lines_from};
 
 use base_numbers::{least, refusal};
@@ -39,7 +39,7 @@ pub const PRINTED_BYTES: usize = INPUT_BYTES + LONGER;
 
 // Where the sheet ends (P2). A line that no LF ends is the last one: the cursor stays in front of it.
 fn sheet_end(s: &[u8]) -> usize
-    ensures is { result ≡ sheetEnd s.now }
+    ensures is { result ≡ sheet_end s.now }
     ensures within { result ≤ length s.now }
 {
     let mut at: usize = 0;
@@ -61,8 +61,8 @@ fn sheet_end(s: &[u8]) -> usize
 
 // What a line asks, served (P4); a malformed line is refused with 1 (P11).
 fn serve_asked(types: &mut [u8; TYPE_BYTES], s: State, q: Asked) -> Served
-    requires { Sound (whole types.old s) × (q.count ≤ maxOperands) × (length q.items ≡ maxOperands) }
-    ensures { Step (whole types.old s) (serveAsked (systemIn (whole types.old s)) (askedAs q)) (done types.new result) }
+    requires { Sound (whole types.old s) × (q.count ≤ max_operands) × (length q.items ≡ max_operands) }
+    ensures { Step (whole types.old s) (serve_asked (system_in (whole types.old s)) (asked_as q)) (done types.new result) }
 {
     if !q.right {
         return refused(s, refusal::FORM);
@@ -84,8 +84,8 @@ fn behind(right: bool, next: usize, end: usize) -> usize
 
 // A line for each request, on the state that those before it left.
 fn serve_lines(buf: &mut [u8], types: &mut [u8; TYPE_BYTES], s: State, rest: &[u8]) -> usize
-    requires { Sound (whole types.old s) × (length rest.now ≤ maxInput) }
-    ensures is { Lined buf.old buf.new (lines_from (systemIn (whole types.old s)) (split rest.now)) result }
+    requires { Sound (whole types.old s) × (length rest.now ≤ max_input) }
+    ensures is { Lined buf.old buf.new (lines_from (system_in (whole types.old s)) (split rest.now)) result }
     ensures few { result ≤ 2392064 }
 {
     // what came of the last line, kept whole: a state taken out of it would be copied once more
@@ -113,7 +113,7 @@ fn serve_lines(buf: &mut [u8], types: &mut [u8; TYPE_BYTES], s: State, rest: &[u
 
 // The whole output, in front of a lent buffer.
 fn put_script(buf: &mut [u8], s: &[u8]) -> usize
-    ensures { Filled buf.old buf.new (scriptOutput s.now) result }
+    ensures { Filled buf.old buf.new (script_output s.now) result }
 {
     if INPUT_BYTES < s.len() {
         return write_word(buf, b"no=2");
@@ -130,7 +130,7 @@ fn put_script(buf: &mut [u8], s: &[u8]) -> usize
 // What the program prints for any input, in front of a buffer of any length: 4 where it does not fit, and then the buffer stays as it was.
 // Five bytes more than the input are enough, so that most callers need not count first.
 pub fn script(s: &[u8], buf: &mut [u8]) -> Wrote
-    ensures { written_of result buf.new ≡ writeText (scriptOutput s.now) buf.old }
+    ensures { written_of result buf.new ≡ write_text (script_output s.now) buf.old }
 {
     if least(s.len(), INPUT_BYTES) + LONGER <= buf.len() {
         return Wrote::Length(put_script(buf, s));

@@ -12,13 +12,13 @@ use lib.ListN.{length, get_or, drop, length-append}
 use borrow.Author.Tests.{ltb-true, leb-true, eqb-true}
 use Rattle.spec_model.specs.Requests.{Request, new, move, call, answer}
 use Rattle.spec_model.proofs.Rules.{first, second}
-use Rattle.spec_model.specs.Coded.{byCode}
+use Rattle.spec_model.specs.Coded.{by_code}
 use Rattle.spec_sheet.specs.Lines.{bytes, starts, same}
-use Rattle.spec_sheet.specs.Numbers.{Scan, fail, took, number, decimalIn, decimal}
-use Rattle.spec_sheet.proofs.Steps.{cond_cases, fail-took, took-value, took-rest, bindScan-took}
+use Rattle.spec_sheet.specs.Numbers.{Scan, fail, took, number, decimal_in, decimal}
+use Rattle.spec_sheet.proofs.Steps.{cond_cases, fail-took, took-value, took-rest, bind_scan-took}
 use Rattle.spec_sheet.proofs.Numbers.{number-sound}
 use Rattle.spec_sheet.proofs.Lines.{starts-sound}
-use Rattle.script_read_request.specs.Asked.{half, positive, negative, integer, operand, operands, maxOperands, leftover, requestBy, word, requestLine}
+use Rattle.script_read_request.specs.Asked.{half, positive, negative, integer, operand, operands, max_operands, leftover, request_by, word, request_line}
 
 -- the bytes of a signed decimal
 abbrev pub long : ℤ → ℕ
@@ -26,12 +26,12 @@ long (pos n) = length (decimal n)
 long (negsuc n) = 1 + length (decimal (suc n))
 
 decimal-some : (n : ℕ) → 1 ≤ length (decimal n)
-unfolding decimalIn
+unfolding decimal_in
 decimal-some n = go (ltb n 10)
   where
-    go : (b : Bool) → 1 ≤ length (cond b ((48 + n) ∷ []) (decimalIn 19 (n / 10) ++ (48 + n % 10) ∷ []))
+    go : (b : Bool) → 1 ≤ length (cond b ((48 + n) ∷ []) (decimal_in 19 (n / 10) ++ (48 + n % 10) ∷ []))
     go true = omega arith
-    go false = let e : length (decimalIn 19 (n / 10) ++ (48 + n % 10) ∷ []) ≡ length (decimalIn 19 (n / 10)) + 1 = length-append (decimalIn 19 (n / 10)) ((48 + n % 10) ∷ []) in omega arith
+    go false = let e : length (decimal_in 19 (n / 10) ++ (48 + n % 10) ∷ []) ≡ length (decimal_in 19 (n / 10)) + 1 = length-append (decimal_in 19 (n / 10)) ((48 + n % 10) ∷ []) in omega arith
 
 long-some : (v : ℤ) → 1 ≤ long v
 long-some (pos n) = decimal-some n
@@ -44,8 +44,8 @@ integer-long : (l : List ℕ) (v : ℤ) (r : List ℕ) → integer l ≡ took v 
 unfolding integer
 integer-long [] v r h = absurd (fail-took h)
 integer-long (b ∷ bs) v r h = cond_cases (eqb b 45) h
-    (λ e k. bindScan-took (number bs) negative k (λ n q t k. cond_cases (leb 1 n && leb n half) k (λ g k. minus n q t g (took-value k) (took-rest k)) (λ g k. absurd (fail-took k))))
-    (λ e k. bindScan-took (number (b ∷ bs)) positive k (λ n q t k. cond_cases (ltb n half) k (λ g k. plus n q t g (took-value k) (took-rest k)) (λ g k. absurd (fail-took k))))
+    (λ e k. bind_scan-took (number bs) negative k (λ n q t k. cond_cases (leb 1 n && leb n half) k (λ g k. minus n q t g (took-value k) (took-rest k)) (λ g k. absurd (fail-took k))))
+    (λ e k. bind_scan-took (number (b ∷ bs)) positive k (λ n q t k. cond_cases (ltb n half) k (λ g k. plus n q t g (took-value k) (took-rest k)) (λ g k. absurd (fail-took k))))
   where
     plus : (n : ℕ) (q : List ℕ) → number (b ∷ bs) ≡ took n q → ltb n half ≡ true → pos n ≡ v → q ≡ r → length (b ∷ bs) ≡ long v + length r
     plus n q t g e f =
@@ -109,7 +109,7 @@ at_least (some (call a b c vs)) = 12
 at_least (some (answer a b none)) = 12
 at_least (some (answer a b (some v))) = 14 + long v
 
-code-long : (k : ℕ) (ws : List ℤ) → at_least (byCode k ws) ≤ length (word k) + (longs ws + length (leftover k ws))
+code-long : (k : ℕ) (ws : List ℤ) → at_least (by_code k ws) ≤ length (word k) + (longs ws + length (leftover k ws))
 code-long zero ws = go (eqb (length ws) 3) refl
   where
     go : (b : Bool) → eqb (length ws) 3 ≡ b → at_least (cond b (some (new (get_or ws 0 (pos 0)) (get_or ws 1 (pos 0)) (get_or ws 2 (pos 0)))) none) ≤ 6 + (longs ws + 0)
@@ -135,13 +135,13 @@ code-long (suc (suc (suc zero))) ws = go (eqb (length ws) 2) refl (eqb (length w
     go false e false f = omega arith
 code-long (suc (suc (suc (suc k)))) ws = omega arith
 
-by-long : (k : ℕ) (l : List ℕ) → at_least (requestBy k l) ≤ length (word k) + length l
-by-long k l = go (operands maxOperands [] l) (operands-long maxOperands [] l)
+by-long : (k : ℕ) (l : List ℕ) → at_least (request_by k l) ≤ length (word k) + length l
+by-long k l = go (operands max_operands [] l) (operands-long max_operands [] l)
   where
-    go : (x : List ℤ × List ℕ) → Told [] l x → at_least (cond (same (leftover k x.0) x.1) (byCode k x.0) none) ≤ length (word k) + length l
+    go : (x : List ℤ × List ℕ) → Told [] l x → at_least (cond (same (leftover k x.0) x.1) (by_code k x.0) none) ≤ length (word k) + length l
     go (ws, r) (vs, e, h) = step (same (leftover k ws) r) refl
       where
-        step : (b : Bool) → same (leftover k ws) r ≡ b → at_least (cond b (byCode k ws) none) ≤ length (word k) + length l
+        step : (b : Bool) → same (leftover k ws) r ≡ b → at_least (cond b (by_code k ws) none) ≤ length (word k) + length l
         step true s =
             let n : length r ≡ length (leftover k ws) = eqb-true (length r) (length (leftover k ws)) (second (starts (leftover k ws) r) _ s) in
             let q : longs ws ≡ longs vs = ap longs e in
@@ -150,7 +150,7 @@ by-long k l = go (operands maxOperands [] l) (operands-long maxOperands [] l)
         step false s = omega arith
 
 -- a line by its word
-word-long : (k : ℕ) (l : List ℕ) → starts (word k) l ≡ true → at_least (requestBy k (drop (length (word k)) l)) ≤ length l
+word-long : (k : ℕ) (l : List ℕ) → starts (word k) l ≡ true → at_least (request_by k (drop (length (word k)) l)) ≤ length l
 word-long k l s =
     let e : length l ≡ length (word k) + length (drop (length (word k)) l) = ap length (starts-sound (word k) l s) ∙ length-append (word k) (drop (length (word k)) l) in
     let h = by-long k (drop (length (word k)) l) in
@@ -160,8 +160,8 @@ one_of : (b : Bool) (x y : Option Request) (n : ℕ) → (b ≡ true → at_leas
 one_of true x y n p q = p refl
 one_of false x y n p q = q refl
 
-pub line-least : (l : List ℕ) → at_least (requestLine l) ≤ length l
-unfolding requestLine
+pub line-least : (l : List ℕ) → at_least (request_line l) ≤ length l
+unfolding request_line
 line-least l =
     one_of (starts (word 0) l) _ _ (length l) (word-long 0 l)
     (λ a. one_of (starts (word 1) l) _ _ (length l) (word-long 1 l)
@@ -176,11 +176,11 @@ some-least (answer a b none) = omega arith
 some-least (answer a b (some v)) = omega arith
 
 -- For callers: every request, and an answer that gives a value.
-pub line-long : (l : List ℕ) (q : Request) → requestLine l ≡ some q → 12 ≤ length l
+pub line-long : (l : List ℕ) (q : Request) → request_line l ≡ some q → 12 ≤ length l
 line-long l q e =
     let h : at_least (some q) ≤ length l = subst (λ z. at_least z ≤ length l) e (line-least l) in
     let k = some-least q in
     omega arith
 
-pub line-given : (l : List ℕ) (a b v : ℤ) → requestLine l ≡ some (answer a b (some v)) → 14 + long v ≤ length l
+pub line-given : (l : List ℕ) (a b v : ℤ) → request_line l ≡ some (answer a b (some v)) → 14 + long v ≤ length l
 line-given l a b v e = subst (λ z. at_least z ≤ length l) e (line-least l)

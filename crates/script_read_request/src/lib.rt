@@ -2,10 +2,10 @@
 ghost use Rattle.std.specs.Prelude.{◌≡◌, ◌&&◌, List, ℕ, ◌-◌, ◌≤◌, ◌<◌, ℤ, pos, negsuc, length, drop};
 ghost use Rattle.std.proofs.Math.Option.{none};
 ghost use Rattle.spec_sheet.specs.Lines.{same};
-ghost use Rattle.spec_sheet.specs.Numbers.{bindScan};
-ghost use Rattle.text_read.specs.View.{scanBy, ScanWithin};
-ghost use Rattle.script_read_request.specs.Asked.{half, positive, negative, integer, operand, leftover, requestBy, requestLine};
-ghost use Rattle.script_read_request.specs.Read.{integerBy, IntegerWithin, countFits, Reads};
+ghost use Rattle.spec_sheet.specs.Numbers.{bind_scan};
+ghost use Rattle.text_read.specs.View.{scan_by, ScanWithin};
+ghost use Rattle.script_read_request.specs.Asked.{half, positive, negative, integer, operand, leftover, request_by, request_line};
+ghost use Rattle.script_read_request.specs.Read.{integer_by, IntegerWithin, count_fits, Reads};
 
 use text_read::Number;
 
@@ -53,7 +53,7 @@ fn minus(n: usize) -> i64
 
 // A number that was scanned with no sign in front: past 64 bits it is none (P9).
 fn unsigned(t: Number) -> Integer
-    ensures is { (l : List ℕ) → integerBy l result ≡ bindScan (scanBy (λ n. n) l t) positive }
+    ensures is { (l : List ℕ) → integer_by l result ≡ bind_scan (scan_by (λ n. n) l t) positive }
     ensures within { (size : ℕ) → ScanWithin size t → IntegerWithin size result }
 {
     let Number::Right(n, next) = t else {
@@ -67,7 +67,7 @@ fn unsigned(t: Number) -> Integer
 
 // A number that was scanned behind a `-`: neither past 64 bits nor `-0` (P9).
 fn negated(t: Number) -> Integer
-    ensures is { (l : List ℕ) → integerBy l result ≡ bindScan (scanBy (λ n. n) l t) negative }
+    ensures is { (l : List ℕ) → integer_by l result ≡ bind_scan (scan_by (λ n. n) l t) negative }
     ensures within { (size : ℕ) → ScanWithin size t → IntegerWithin size result }
 {
     let Number::Right(n, next) = t else {
@@ -85,7 +85,7 @@ fn negated(t: Number) -> Integer
 // The signed number that stands at `at` (P9).
 fn integer_at(l: &[u8], at: usize) -> Integer
     requires { at ≤ length l.now }
-    ensures is { integerBy l.now result ≡ integer (drop at l.now) }
+    ensures is { integer_by l.now result ≡ integer (drop at l.now) }
     ensures within { IntegerWithin (length l.now) result }
 {
     if at == l.len() {
@@ -102,7 +102,7 @@ fn integer_at(l: &[u8], at: usize) -> Integer
 // The operand that stands at `at`, behind one space (P10).
 fn operand_at(l: &[u8], at: usize) -> Integer
     requires { at ≤ length l.now }
-    ensures is { integerBy l.now result ≡ operand (drop at l.now) }
+    ensures is { integer_by l.now result ≡ operand (drop at l.now) }
     ensures within { IntegerWithin (length l.now) result }
 {
     if at == l.len() {
@@ -131,7 +131,7 @@ fn ends(l: &[u8], at: usize, code: usize, count: usize) -> bool
 
 // Whether the request of a code can have so many operands (P5 to P8).
 fn fits(code: usize, count: usize) -> bool
-    ensures { result ≡ countFits code count }
+    ensures { result ≡ count_fits code count }
 {
     if code == 0 {
         return count == 3;
@@ -154,7 +154,7 @@ fn fits(code: usize, count: usize) -> bool
 // Whether a line whose operands end at `at` asks something: it ends there, and their count is one of the code's.
 fn right_at(l: &[u8], at: usize, code: usize, count: usize) -> bool
     requires { at ≤ length l.now }
-    ensures { (ws : List ℤ) → length ws ≡ count → result ≡ (same (leftover code ws) (drop at l.now) && countFits code count) }
+    ensures { (ws : List ℤ) → length ws ≡ count → result ≡ (same (leftover code ws) (drop at l.now) && count_fits code count) }
 {
     if !ends(l, at, code, count) {
         return false;
@@ -165,7 +165,7 @@ fn right_at(l: &[u8], at: usize, code: usize, count: usize) -> bool
 // The request of a code by what stands behind its word: operands, as many as there are and a request can have, and the line's end.
 fn request_at(l: &[u8], at: usize, code: usize) -> Asked
     requires { at ≤ length l.now }
-    ensures { Reads (requestBy code (drop at l.now)) result }
+    ensures { Reads (request_by code (drop at l.now)) result }
 {
     let mut i = at;
     let mut items = [0i64; OPERANDS];
@@ -208,7 +208,7 @@ fn nothing() -> Asked
 
 // The request of a line, by the word that it begins with (P4 to P8).
 pub fn read_request(l: &[u8]) -> Asked
-    ensures { Reads (requestLine l.now) result }
+    ensures { Reads (request_line l.now) result }
 {
     if text_read::begins(l, b"do=new") {
         return request_at(l, 6, 0);

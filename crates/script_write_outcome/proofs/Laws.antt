@@ -12,13 +12,13 @@ use mir.Syntax.{w64}
 use mir.Val.{SFits}
 use Rattle.request_common.specs.declared.Outcome.{Outcome}
 use Rattle.request_common.specs.declared.Outcome.TheVariants.{Refused, Pair, Number, Nothing}
-use Rattle.request_common.specs.Served.{outcomeOf}
+use Rattle.request_common.specs.Served.{outcome_of}
 use borrow.Author.Tests.{ltb-true, lt-ltb}
 use Rattle.spec_model.specs.Requests.{pair, number, got}
 use Rattle.spec_sheet.specs.Lines.{bytes}
 use Rattle.spec_sheet.specs.Numbers.{decimal}
-use Rattle.spec_sheet.specs.Text.{numberText}
-use Rattle.script_write_outcome.specs.Outcomes.{integerText, outcomeText}
+use Rattle.spec_sheet.specs.Text.{number_text}
+use Rattle.script_write_outcome.specs.Outcomes.{integer_text, outcome_text}
 
 -- ---- The magnitude of a number below zero, by way of -(v + 1), which fits where -v does not.
 pub record Opposite (v : ℤ) : Type 0 where
@@ -42,32 +42,32 @@ opposite (negsuc (suc k)) h f =
     record { next = subst (SFits w64) (sym e) n; size = suc k; is = ap (λ z. pos 0 -ℤ z) e ∙ q; fits = record { sfits = g }; one = add-one (suc k); small = omega arith }
 
 -- ---- a signed decimal
-pub integer-negative : (v : ℤ) (n : ℕ) → lt_z v (pos 0) ≡ true → n ≡ nat_abs v → (45 ∷ []) ++ decimal n ≡ integerText v
-unfolding integerText
+pub integer-negative : (v : ℤ) (n : ℕ) → lt_z v (pos 0) ≡ true → n ≡ nat_abs v → (45 ∷ []) ++ decimal n ≡ integer_text v
+unfolding integer_text
 integer-negative (pos k) n h e = let l : k < 0 = ltb-true k 0 h in absurd (omega arith)
 integer-negative (negsuc k) n h e = ap (λ z. 45 ∷ decimal z) e
 
-pub integer-positive : (v : ℤ) (n : ℕ) → lt_z v (pos 0) ≡ false → n ≡ nat_abs v → decimal n ≡ integerText v
-unfolding integerText
+pub integer-positive : (v : ℤ) (n : ℕ) → lt_z v (pos 0) ≡ false → n ≡ nat_abs v → decimal n ≡ integer_text v
+unfolding integer_text
 integer-positive (pos k) n h e = ap decimal e
 integer-positive (negsuc k) n h e = let z : ◌≡◌ {A = Bool} true false = h in let q : ◌≡◌ {A = ℕ} 0 1 = cc in absurd (omega arith)
 
 -- ---- lines
-pub number_is : (v w : ℤ) → w ≡ v → (bytes "got=" ++ integerText w) ++ 10 ∷ [] ≡ outcomeText (got (number v)) ++ 10 ∷ []
-unfolding outcomeText
-number_is v w e = ap (λ z. (bytes "got=" ++ integerText z) ++ 10 ∷ []) e
+pub number_is : (v w : ℤ) → w ≡ v → (bytes "got=" ++ integer_text w) ++ 10 ∷ [] ≡ outcome_text (got (number v)) ++ 10 ∷ []
+unfolding outcome_text
+number_is v w e = ap (λ z. (bytes "got=" ++ integer_text z) ++ 10 ∷ []) e
 
 -- ---- the variants of an answer
-pub refused-is : (a : Outcome) (e : ℕ) → a ≡ Refused e → numberText (bytes "no=") e ∷ [] ≡ outcomeText (outcomeOf a) ∷ []
-unfolding outcomeText
-refused-is a e h = ap (λ z. outcomeText (outcomeOf z) ∷ []) (sym h)
+pub refused-is : (a : Outcome) (e : ℕ) → a ≡ Refused e → number_text (bytes "no=") e ∷ [] ≡ outcome_text (outcome_of a) ∷ []
+unfolding outcome_text
+refused-is a e h = ap (λ z. outcome_text (outcome_of z) ∷ []) (sym h)
 
-pub paired_is : (a : Outcome) (x y : ℕ) → a ≡ Pair x y → outcomeText (got (pair x y)) ∷ [] ≡ outcomeText (outcomeOf a) ∷ []
-paired_is a x y h = ap (λ z. outcomeText (outcomeOf z) ∷ []) (sym h)
+pub paired_is : (a : Outcome) (x y : ℕ) → a ≡ Pair x y → outcome_text (got (pair x y)) ∷ [] ≡ outcome_text (outcome_of a) ∷ []
+paired_is a x y h = ap (λ z. outcome_text (outcome_of z) ∷ []) (sym h)
 
-pub numbered_is : (a : Outcome) (v w : ℤ) → a ≡ Number v → w ≡ v → outcomeText (got (number w)) ∷ [] ≡ outcomeText (outcomeOf a) ∷ []
-numbered_is a v w h e = ap (λ z. outcomeText (got (number z)) ∷ []) e ∙ ap (λ z. outcomeText (outcomeOf z) ∷ []) (sym h)
+pub numbered_is : (a : Outcome) (v w : ℤ) → a ≡ Number v → w ≡ v → outcome_text (got (number w)) ∷ [] ≡ outcome_text (outcome_of a) ∷ []
+numbered_is a v w h e = ap (λ z. outcome_text (got (number z)) ∷ []) e ∙ ap (λ z. outcome_text (outcome_of z) ∷ []) (sym h)
 
-pub nothing_is : (a : Outcome) → a ≡ Nothing → bytes "got=-" ∷ [] ≡ outcomeText (outcomeOf a) ∷ []
-unfolding outcomeText
-nothing_is a h = ap (λ z. outcomeText (outcomeOf z) ∷ []) (sym h)
+pub nothing_is : (a : Outcome) → a ≡ Nothing → bytes "got=-" ∷ [] ≡ outcome_text (outcome_of a) ∷ []
+unfolding outcome_text
+nothing_is a h = ap (λ z. outcome_text (outcome_of z) ∷ []) (sym h)

@@ -1,9 +1,9 @@
 // The line that `script` prints for what a request came to (P12, P13). Each piece is written behind the one before it, in one lent buffer (F2).
 ghost use Rattle.std.specs.Prelude.{◌≡◌, [], ◌∷◌, ◌≤◌, nat_abs};
 ghost use Rattle.spec_model.specs.Requests.{pair, number, got};
-ghost use Rattle.request_common.specs.Served.{outcomeOf};
+ghost use Rattle.request_common.specs.Served.{outcome_of};
 ghost use Rattle.text_write.specs.Fill.{Filled, Lined};
-ghost use Rattle.script_write_outcome.specs.Outcomes.{integerText, outcomeText};
+ghost use Rattle.script_write_outcome.specs.Outcomes.{integer_text, outcome_text};
 
 use base_numbers::least;
 use request_common::Outcome;
@@ -22,7 +22,7 @@ fn magnitude(v: i64) -> usize
 
 // A signed decimal.
 fn put_integer(buf: &mut [u8], v: i64) -> usize
-    ensures is { Filled buf.old buf.new (integerText v) result }
+    ensures is { Filled buf.old buf.new (integer_text v) result }
     ensures few { result ≤ 21 }
 {
     let n = magnitude(v);
@@ -36,7 +36,7 @@ fn put_integer(buf: &mut [u8], v: i64) -> usize
 
 // A result of two numbers (P12).
 fn write_pair(buf: &mut [u8], first: usize, second: usize) -> usize
-    ensures is { Lined buf.old buf.new (outcomeText (got (pair first second)) ∷ []) result }
+    ensures is { Lined buf.old buf.new (outcome_text (got (pair first second)) ∷ []) result }
     ensures few { result ≤ 73 }
 {
     let a = put_number(buf, b"got=", first);
@@ -46,7 +46,7 @@ fn write_pair(buf: &mut [u8], first: usize, second: usize) -> usize
 
 // The number answered.
 fn write_integer(buf: &mut [u8], v: i64) -> usize
-    ensures is { Lined buf.old buf.new (outcomeText (got (number v)) ∷ []) result }
+    ensures is { Lined buf.old buf.new (outcome_text (got (number v)) ∷ []) result }
     ensures few { result ≤ 26 }
 {
     let a = put_bytes(buf, b"got=");
@@ -58,7 +58,7 @@ fn write_integer(buf: &mut [u8], v: i64) -> usize
 
 // The line of an outcome.
 pub fn write_outcome(buf: &mut [u8], a: Outcome) -> usize
-    ensures is { Lined buf.old buf.new (outcomeText (outcomeOf a) ∷ []) result }
+    ensures is { Lined buf.old buf.new (outcome_text (outcome_of a) ∷ []) result }
     ensures few { result ≤ 73 }
 {
     match a {

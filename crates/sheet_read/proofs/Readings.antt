@@ -5,40 +5,40 @@ use mathlib.Core.List.{List, [], ◌∷◌}
 use Prim.Native.Nat.{ℕ, ◌+◌, ◌≤◌, ◌<◌}
 use lib.Dec.{eqb}
 use lib.ListN.{length, get_or, drop}
-use Rattle.spec_model.specs.Table.{Ty, Table, maxSubjects, maxMethods, maxCategories, maxSheetTypes}
-use Rattle.spec_model.specs.Check.{linksOf}
-use Rattle.spec_model.specs.Refusals.{form, notBelow}
-use Rattle.spec_sheet.specs.Lines.{bytes, Row, row, cut, push, split, Reading, refused, got, Reader, pure, line, follow, bind, times, endOfInput}
-use Rattle.spec_sheet.specs.Text.{newestForm}
-use Rattle.spec_sheet.specs.Sheet.{numberLine, endLine, oneType, body, signaturesStand, ending, sheet, sheetResult, read}
+use Rattle.spec_model.specs.Table.{Ty, Table, max_subjects, max_methods, max_categories, max_sheet_types}
+use Rattle.spec_model.specs.Check.{links_of}
+use Rattle.spec_model.specs.Refusals.{form, not_below}
+use Rattle.spec_sheet.specs.Lines.{bytes, Row, row, cut, push, split, Reading, refused, got, Reader, pure, line, follow, bind, times, end_of_input}
+use Rattle.spec_sheet.specs.Text.{newest_form}
+use Rattle.spec_sheet.specs.Sheet.{number_line, end_line, one_type, body, signatures_stand, ending, sheet, sheet_result, read}
 use Rattle.text_read.proofs.Laws.{from-here, at-end}
 use Rattle.text_cursor.specs.declared.Cursor.{Cursor}
 use Rattle.sheet_read_line.specs.declared.UnderGot.{UnderGot}
 use Rattle.sheet_read_line.specs.declared.UnderGot.TheVariants.{Refused as Refusedᵘ, At as Atᵘ}
-use Rattle.sheet_read_line.specs.View.{underRead}
+use Rattle.sheet_read_line.specs.View.{under_read}
 use Rattle.table_record.specs.declared.Links.{Links}
-use Rattle.table_record.specs.Store.{rawLinks}
+use Rattle.table_record.specs.Store.{raw_links}
 use Rattle.sheet_read_type.proofs.Readings.{step-no, step_ok}
 use Rattle.sheet_read.specs.declared.Front.{Front}
 use Rattle.sheet_read_type.specs.declared.Done.{Done}
 use Rattle.sheet_read_type.specs.declared.Done.TheVariants.{Refused as Refusedᵈ, At as Atᵈ}
-use Rattle.sheet_read_type.specs.View.{OnDone, doneBy}
-use Rattle.sheet_read.specs.View.{eachUnder, first₁, first, afterCount, afterCats, afterFirst}
+use Rattle.sheet_read_type.specs.View.{OnDone, done_by}
+use Rattle.sheet_read.specs.View.{each_under, first₁, first, after_count, after_cats, after_first}
 
 -- What the cases of an answer say.
-module _ (s : List ℕ) (at : ℕ) (g : UnderGot) (R : Reading (List ℕ)) (is : underRead s at g ≡ R) where
+module _ (s : List ℕ) (at : ℕ) (g : UnderGot) (R : Reading (List ℕ)) (is : under_read s at g ≡ R) where
   pub under-no : (k : ℕ) → g ≡ Refusedᵘ k → refused k at ≡ R
-  under-no k e = ap (underRead s at) (sym e) ∙ is
+  under-no k e = ap (under_read s at) (sym e) ∙ is
 
-  pub under-ok : (x : Links) (c : Cursor) → g ≡ Atᵘ x c → got (linksOf (rawLinks x)) c.at (split (drop c.at s)) ≡ R
-  under-ok x c e = ap (underRead s at) (sym e) ∙ is
+  pub under-ok : (x : Links) (c : Cursor) → g ≡ Atᵘ x c → got (links_of (raw_links x)) c.at (split (drop c.at s)) ≡ R
+  under-ok x c e = ap (under_read s at) (sym e) ∙ is
 
-module _ {A : Type 0} (s : List ℕ) (x : A) (r : Done) (R : Reading A) (is : doneBy s x r ≡ R) where
+module _ {A : Type 0} (s : List ℕ) (x : A) (r : Done) (R : Reading A) (is : done_by s x r ≡ R) where
   pub done-no : (k : ℕ) (c : Cursor) → r ≡ Refusedᵈ k c → refused k c.at ≡ R
-  done-no k c e = ap (doneBy s x) (sym e) ∙ is
+  done-no k c e = ap (done_by s x) (sym e) ∙ is
 
   pub done_ok : (c : Cursor) → r ≡ Atᵈ c → got x c.at (split (drop c.at s)) ≡ R
-  done_ok c e = ap (doneBy s x) (sym e) ∙ is
+  done_ok c e = ap (done_by s x) (sym e) ∙ is
 
 pub on-done : (r : Done) (c : Cursor) (P : Type 0) → r ≡ Atᵈ c → OnDone r P → P
 on-done r c P e h = subst (λ (z : Done). OnDone z P) e h
@@ -50,120 +50,120 @@ regroup (refused n at) k e f h = refl
 regroup (got x at rs) k e f h = h x at rs
 
 -- The first four lines, and the whole sheet behind them.
-abbrev pub afterCatsLine : ℕ → ℕ → ℕ → Reader Front
-afterCatsLine s m c = pure (record { subjects = s; methods = m; cats = c })
+abbrev pub after_cats_line : ℕ → ℕ → ℕ → Reader Front
+after_cats_line s m c = pure (record { subjects = s; methods = m; cats = c })
 
-abbrev pub afterMethodsLine : ℕ → ℕ → Reader Front
-afterMethodsLine s m = bind (line (numberLine (bytes "cats=") 0 maxCategories)) (afterCatsLine s m)
+abbrev pub after_methods_line : ℕ → ℕ → Reader Front
+after_methods_line s m = bind (line (number_line (bytes "cats=") 0 max_categories)) (after_cats_line s m)
 
-abbrev pub afterSubjectsLine : ℕ → Reader Front
-afterSubjectsLine s = bind (line (numberLine (bytes "methods=") 1 maxMethods)) (afterMethodsLine s)
+abbrev pub after_subjects_line : ℕ → Reader Front
+after_subjects_line s = bind (line (number_line (bytes "methods=") 1 max_methods)) (after_methods_line s)
 
-pub first_of : (at : ℕ) (rs : List Row) → follow (line (numberLine (bytes "guide=") 1 newestForm) at rs) first₁ ≡ first at rs
+pub first_of : (at : ℕ) (rs : List Row) → follow (line (number_line (bytes "guide=") 1 newest_form) at rs) first₁ ≡ first at rs
 unfolding first
 first_of at rs = refl
 
-pub first_body : (at : ℕ) (rs : List Row) → body at rs ≡ follow (first at rs) afterFirst
-unfolding body first afterFirst afterCats afterCount
+pub first_body : (at : ℕ) (rs : List Row) → body at rs ≡ follow (first at rs) after_first
+unfolding body first after_first after_cats after_count
 first_body at rs =
-    regroup (line (numberLine (bytes "guide=") 1 newestForm) at rs) first₁ afterFirst _
-    (λ g at rs. regroup (line (numberLine (bytes "subjects=") 1 maxSubjects) at rs) _ afterFirst _
-    (λ s at rs. regroup (line (numberLine (bytes "methods=") 1 maxMethods) at rs) _ afterFirst _
-    (λ m at rs. regroup (line (numberLine (bytes "cats=") 0 maxCategories) at rs) _ afterFirst _ (λ c at rs. refl))))
+    regroup (line (number_line (bytes "guide=") 1 newest_form) at rs) first₁ after_first _
+    (λ g at rs. regroup (line (number_line (bytes "subjects=") 1 max_subjects) at rs) _ after_first _
+    (λ s at rs. regroup (line (number_line (bytes "methods=") 1 max_methods) at rs) _ after_first _
+    (λ m at rs. regroup (line (number_line (bytes "cats=") 0 max_categories) at rs) _ after_first _ (λ c at rs. refl))))
 
-pub sheet-of : (s : List ℕ) → sheetResult (follow (follow (first 0 (split s)) afterFirst) ending) ≡ read s
+pub sheet-of : (s : List ℕ) → sheet_result (follow (follow (first 0 (split s)) after_first) ending) ≡ read s
 unfolding read sheet
-sheet-of s = ap (λ z. sheetResult (follow z ending)) (sym (first_body 0 (split s)))
+sheet-of s = ap (λ z. sheet_result (follow z ending)) (sym (first_body 0 (split s)))
 
 -- The groups of lines behind the first four.
 module _ (h : Front) (at : ℕ) (rs : List Row) where
-  all_of : follow (follow (times (eachUnder h.cats) h.cats 1 [] at rs) (afterCats h)) ending ≡ bind (afterFirst h) ending at rs
-  unfolding afterFirst
+  all_of : follow (follow (times (each_under h.cats) h.cats 1 [] at rs) (after_cats h)) ending ≡ bind (after_first h) ending at rs
+  unfolding after_first
   all_of = refl
 
-  pub links-no : (k a : ℕ) → refused k a ≡ times (eachUnder h.cats) h.cats 1 [] at rs → refused k a ≡ bind (afterFirst h) ending at rs
-  links-no k a e = ap (λ z. follow (follow z (afterCats h)) ending) e ∙ all_of
+  pub links-no : (k a : ℕ) → refused k a ≡ times (each_under h.cats) h.cats 1 [] at rs → refused k a ≡ bind (after_first h) ending at rs
+  links-no k a e = ap (λ z. follow (follow z (after_cats h)) ending) e ∙ all_of
 
-  module _ (links : List (List ℕ)) (at₁ : ℕ) (rs₁ : List Row) (e₁ : got links at₁ rs₁ ≡ times (eachUnder h.cats) h.cats 1 [] at rs) where
-    to-count : follow (follow (line (numberLine (bytes "types=") 1 maxSheetTypes) at₁ rs₁) (afterCount h links)) ending ≡ bind (afterFirst h) ending at rs
-    unfolding afterCats
-    to-count = ap (λ z. follow (follow z (afterCats h)) ending) e₁ ∙ all_of
+  module _ (links : List (List ℕ)) (at₁ : ℕ) (rs₁ : List Row) (e₁ : got links at₁ rs₁ ≡ times (each_under h.cats) h.cats 1 [] at rs) where
+    to-count : follow (follow (line (number_line (bytes "types=") 1 max_sheet_types) at₁ rs₁) (after_count h links)) ending ≡ bind (after_first h) ending at rs
+    unfolding after_cats
+    to-count = ap (λ z. follow (follow z (after_cats h)) ending) e₁ ∙ all_of
 
-    pub count_no : (k a : ℕ) → refused k a ≡ line (numberLine (bytes "types=") 1 maxSheetTypes) at₁ rs₁ → refused k a ≡ bind (afterFirst h) ending at rs
-    count_no k a e = ap (λ z. follow (follow z (afterCount h links)) ending) e ∙ to-count
+    pub count_no : (k a : ℕ) → refused k a ≡ line (number_line (bytes "types=") 1 max_sheet_types) at₁ rs₁ → refused k a ≡ bind (after_first h) ending at rs
+    count_no k a e = ap (λ z. follow (follow z (after_count h links)) ending) e ∙ to-count
 
-    pub count-ok : (n at₂ : ℕ) (rs₂ : List Row) → got n at₂ rs₂ ≡ line (numberLine (bytes "types=") 1 maxSheetTypes) at₁ rs₁
-        → bind (afterCount h links n) ending at₂ rs₂ ≡ bind (afterFirst h) ending at rs
-    count-ok n at₂ rs₂ e = ap (λ z. follow (follow z (afterCount h links)) ending) e ∙ to-count
+    pub count-ok : (n at₂ : ℕ) (rs₂ : List Row) → got n at₂ rs₂ ≡ line (number_line (bytes "types=") 1 max_sheet_types) at₁ rs₁
+        → bind (after_count h links n) ending at₂ rs₂ ≡ bind (after_first h) ending at rs
+    count-ok n at₂ rs₂ e = ap (λ z. follow (follow z (after_count h links)) ending) e ∙ to-count
 
 -- the table that is read
-abbrev pub tableWith : Front → List (List ℕ) → ℕ → List Ty → Table
-tableWith h links n ts = record { subjects = h.subjects; methods = h.methods; cats = links; sheet = n; types = ts }
+abbrev pub table_with : Front → List (List ℕ) → ℕ → List Ty → Table
+table_with h links n ts = record { subjects = h.subjects; methods = h.methods; cats = links; sheet = n; types = ts }
 
 -- the types and the last line
 module _ (h : Front) (links : List (List ℕ)) (n at : ℕ) (rs : List Row) where
   tabled : List Ty → Reader Table
-  tabled ts = pure (tableWith h links n ts)
+  tabled ts = pure (table_with h links n ts)
 
-  count_of : follow (follow (times (oneType h.methods h.cats n) n 0 [] at rs) tabled) ending ≡ bind (afterCount h links n) ending at rs
-  unfolding afterCount tabled
+  count_of : follow (follow (times (one_type h.methods h.cats n) n 0 [] at rs) tabled) ending ≡ bind (after_count h links n) ending at rs
+  unfolding after_count tabled
   count_of = refl
 
-  pub types-no : (k a : ℕ) → refused k a ≡ times (oneType h.methods h.cats n) n 0 [] at rs → refused k a ≡ bind (afterCount h links n) ending at rs
+  pub types-no : (k a : ℕ) → refused k a ≡ times (one_type h.methods h.cats n) n 0 [] at rs → refused k a ≡ bind (after_count h links n) ending at rs
   types-no k a e = ap (λ z. follow (follow z tabled) ending) e ∙ count_of
 
-  pub to-ending : (ts : List Ty) (at₁ : ℕ) (rs₁ : List Row) → got ts at₁ rs₁ ≡ times (oneType h.methods h.cats n) n 0 [] at rs
-      → ending (tableWith h links n ts) at₁ rs₁ ≡ bind (afterCount h links n) ending at rs
+  pub to-ending : (ts : List Ty) (at₁ : ℕ) (rs₁ : List Row) → got ts at₁ rs₁ ≡ times (one_type h.methods h.cats n) n 0 [] at rs
+      → ending (table_with h links n ts) at₁ rs₁ ≡ bind (after_count h links n) ending at rs
   unfolding tabled
   to-ending ts at₁ rs₁ e = ap (λ z. follow (follow z tabled) ending) e ∙ count_of
 
 -- The last line: bytes that are left make a row
-push-some : (at b : ℕ) (rs : List Row) → endOfInput at (push b rs) ≡ refused form at
+push-some : (at b : ℕ) (rs : List Row) → end_of_input at (push b rs) ≡ refused form at
 push-some at b [] = refl
 push-some at b (row l ∷ rs) = refl
 push-some at b (cut l ∷ rs) = refl
 
-more_left : (at b : ℕ) (l : List ℕ) → endOfInput at (split (b ∷ l)) ≡ refused form at
+more_left : (at b : ℕ) (l : List ℕ) → end_of_input at (split (b ∷ l)) ≡ refused form at
 unfolding split
 more_left at b l = go (eqb b 10)
   where
-    go : (t : Bool) → endOfInput at (cond t (row [] ∷ split l) (push b (split l))) ≡ refused form at
+    go : (t : Bool) → end_of_input at (cond t (row [] ∷ split l) (push b (split l))) ≡ refused form at
     go true = refl
     go false = push-some at b (split l)
 
 module _ (t : Table) (s : List ℕ) (last : ℕ) where
-  after-endOfInput : Unit {0} → Reader Table
-  unfolding signaturesStand
-  after-endOfInput u at rs = cond (signaturesStand t) (got t at rs) (refused notBelow last)
+  after-end_of_input : Unit {0} → Reader Table
+  unfolding signatures_stand
+  after-end_of_input u at rs = cond (signatures_stand t) (got t at rs) (refused not_below last)
 
   after-end : Unit {0} → Reader Table
-  unfolding after-endOfInput
-  after-end u = bind endOfInput after-endOfInput
+  unfolding after-end_of_input
+  after-end u = bind end_of_input after-end_of_input
 
-  ending_of : follow (line endLine last (split (drop last s))) after-end ≡ ending t last (split (drop last s))
-  unfolding ending after-end after-endOfInput
+  ending_of : follow (line end_line last (split (drop last s))) after-end ≡ ending t last (split (drop last s))
+  unfolding ending after-end after-end_of_input
   ending_of = refl
 
-  pub ending-no : (k a : ℕ) → refused k a ≡ line endLine last (split (drop last s)) → refused k a ≡ ending t last (split (drop last s))
+  pub ending-no : (k a : ℕ) → refused k a ≡ line end_line last (split (drop last s)) → refused k a ≡ ending t last (split (drop last s))
   ending-no k a e = step-no after-end ending_of e
 
-  module _ (a : ℕ) (e : got tt a (split (drop a s)) ≡ line endLine last (split (drop last s))) where
-    to-endOfInput : follow (endOfInput a (split (drop a s))) after-endOfInput ≡ ending t last (split (drop last s))
+  module _ (a : ℕ) (e : got tt a (split (drop a s)) ≡ line end_line last (split (drop last s))) where
+    to-end_of_input : follow (end_of_input a (split (drop a s))) after-end_of_input ≡ ending t last (split (drop last s))
     unfolding after-end
-    to-endOfInput = step_ok after-end ending_of e
+    to-end_of_input = step_ok after-end ending_of e
 
     pub ending-more : a < length s → refused form a ≡ ending t last (split (drop last s))
-    ending-more h = step-no after-endOfInput to-endOfInput (sym (ap (λ z. endOfInput a (split z)) (from-here s a h) ∙ more_left a (get_or s a 0) (drop (a + 1) s)))
+    ending-more h = step-no after-end_of_input to-end_of_input (sym (ap (λ z. end_of_input a (split z)) (from-here s a h) ∙ more_left a (get_or s a 0) (drop (a + 1) s)))
 
     module _ (h : length s ≤ a) where
-      alone : cond (signaturesStand t) (got t a (split (drop a s))) (refused notBelow last) ≡ ending t last (split (drop last s))
-      unfolding after-endOfInput split
+      alone : cond (signatures_stand t) (got t a (split (drop a s))) (refused not_below last) ≡ ending t last (split (drop last s))
+      unfolding after-end_of_input split
       alone =
-          ap (λ z. cond (signaturesStand t) (got t a (split z)) (refused notBelow last)) (at-end s a h)
-          ∙ ap (λ z. follow (endOfInput a (split z)) after-endOfInput) (sym (at-end s a h)) ∙ to-endOfInput
+          ap (λ z. cond (signatures_stand t) (got t a (split z)) (refused not_below last)) (at-end s a h)
+          ∙ ap (λ z. follow (end_of_input a (split z)) after-end_of_input) (sym (at-end s a h)) ∙ to-end_of_input
 
-      pub ending-own : signaturesStand t ≡ false → refused notBelow last ≡ ending t last (split (drop last s))
-      ending-own q = ap (λ z. cond z (got t a (split (drop a s))) (refused notBelow last)) (sym q) ∙ alone
+      pub ending-own : signatures_stand t ≡ false → refused not_below last ≡ ending t last (split (drop last s))
+      ending-own q = ap (λ z. cond z (got t a (split (drop a s))) (refused not_below last)) (sym q) ∙ alone
 
-      pub ending-good : signaturesStand t ≡ true → got t a (split (drop a s)) ≡ ending t last (split (drop last s))
-      ending-good q = ap (λ z. cond z (got t a (split (drop a s))) (refused notBelow last)) (sym q) ∙ alone
+      pub ending-good : signatures_stand t ≡ true → got t a (split (drop a s)) ≡ ending t last (split (drop last s))
+      ending-good q = ap (λ z. cond z (got t a (split (drop a s))) (refused not_below last)) (sym q) ∙ alone

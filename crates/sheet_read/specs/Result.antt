@@ -1,21 +1,21 @@
 -- The reader's result for the definition's (S32, S33).
 use Rattle.std.specs.Prelude.{List, ℕ}
 use Rattle.table_record.specs.declared.Counts.{Counts}
-use Rattle.table_record.specs.Layout.{emptyTypes, emptyLinks, emptyCounts}
-use Rattle.table_record.specs.Records.{type_bytes, linkBytes, countsOf}
+use Rattle.table_record.specs.Layout.{empty_types, empty_links, empty_counts}
+use Rattle.table_record.specs.Records.{type_bytes, link_bytes, counts_of}
 use Rattle.spec_sheet.specs.Sheet.{SheetResult, malformed, loaded}
 use Rattle.sheet_read.specs.declared.ReadInto.{ReadInto}
 use Rattle.sheet_read.specs.declared.Sheet.{Sheet}
 
 -- The reader's result for the definition's, every byte of it: the bytes that stand for the table; or number and offset of the refusal, with a table that holds nothing (B21).
-abbrev pub sheetFor : SheetResult → Sheet
-sheetFor (malformed n at) = record { refusal = n; at = at; types = emptyTypes; links = emptyLinks; counts = emptyCounts }
-sheetFor (loaded t) = record { refusal = 0; at = 0; types = type_bytes t.types; links = linkBytes t.cats; counts = countsOf t }
+abbrev pub sheet_for : SheetResult → Sheet
+sheet_for (malformed n at) = record { refusal = n; at = at; types = empty_types; links = empty_links; counts = empty_counts }
+sheet_for (loaded t) = record { refusal = 0; at = 0; types = type_bytes t.types; links = link_bytes t.cats; counts = counts_of t }
 
 -- that result from its parts, where each of them is handed out by itself: number, offset, bytes and counts
-abbrev pub sheetOf : ℕ → ℕ → List ℕ → List ℕ → Counts → Sheet
-sheetOf n at types links counts = record { refusal = n; at = at; types = types; links = links; counts = counts }
+abbrev pub sheet_of : ℕ → ℕ → List ℕ → List ℕ → Counts → Sheet
+sheet_of n at types links counts = record { refusal = n; at = at; types = types; links = links; counts = counts }
 
 -- that result where the bytes are lent
-abbrev pub readIntoOf : ReadInto → List ℕ → List ℕ → Sheet
-readIntoOf r types links = sheetOf r.refusal r.at types links r.counts
+abbrev pub read_into_of : ReadInto → List ℕ → List ℕ → Sheet
+read_into_of r types links = sheet_of r.refusal r.at types links r.counts

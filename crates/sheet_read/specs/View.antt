@@ -1,52 +1,52 @@
 -- What the reader's results say, in the words of crate `spec_sheet`: the code's records as the model's, and the lines of a sheet in the groups in which the code reads them.
 use Rattle.std.specs.Prelude.{List, [], ℕ, ◌≤◌, get_or, drop}
 use Rattle.spec_model.specs.Basics.{from}
-use Rattle.spec_model.specs.Table.{Table, maxSubjects, maxMethods, maxCategories, maxSheetTypes}
-use Rattle.spec_model.specs.Check.{RawLinks, noRawLinks, linksOf}
+use Rattle.spec_model.specs.Table.{Table, max_subjects, max_methods, max_categories, max_sheet_types}
+use Rattle.spec_model.specs.Check.{RawLinks, no_raw_links, links_of}
 use Rattle.spec_sheet.specs.Lines.{bytes, split, Reading, refused, got, Reader, pure, line, bind, times}
-use Rattle.spec_sheet.specs.Text.{newestForm}
-use Rattle.spec_sheet.specs.Sheet.{numberLine, underLine, oneType}
+use Rattle.spec_sheet.specs.Text.{newest_form}
+use Rattle.spec_sheet.specs.Sheet.{number_line, under_line, one_type}
 use Rattle.sheet_read.specs.declared.Front.{Front}
 use Rattle.sheet_read.specs.declared.First.{First}
 use Rattle.sheet_read.specs.declared.First.TheVariants.{Refused as Refusedᶠ, At as Atᶠ}
-pub use Rattle.sheet_read.specs.Result.{sheetFor, sheetOf, readIntoOf}
+pub use Rattle.sheet_read.specs.Result.{sheet_for, sheet_of, read_into_of}
 
 -- the first four lines of s
-abbrev pub firstBy : List ℕ → First → Reading Front
-firstBy s (Refusedᶠ k c) = refused k c.at
-firstBy s (Atᶠ f c) = got f c.at (split (drop c.at s))
+abbrev pub first_by : List ℕ → First → Reading Front
+first_by s (Refusedᶠ k c) = refused k c.at
+first_by s (Atᶠ f c) = got f c.at (split (drop c.at s))
 
 abbrev pub FirstWithin : First → Type 0
 FirstWithin (Refusedᶠ k c) = Unit {0}
-FirstWithin (Atᶠ f c) = (f.methods ≤ maxMethods) × (f.cats ≤ maxCategories)
+FirstWithin (Atᶠ f c) = (f.methods ≤ max_methods) × (f.cats ≤ max_categories)
 
 -- The broader categories of categories 1 to n.
-unfoldable pub linksTo : ℕ → List RawLinks → List (List ℕ)
-linksTo n ls = from n 1 (λ k. linksOf (get_or ls k noRawLinks))
+unfoldable pub links_to : ℕ → List RawLinks → List (List ℕ)
+links_to n ls = from n 1 (λ k. links_of (get_or ls k no_raw_links))
 
 -- the `under=` line of a category
-abbrev pub eachUnder : ℕ → ℕ → Reader (List ℕ)
-eachUnder cats k = line (underLine cats k)
+abbrev pub each_under : ℕ → ℕ → Reader (List ℕ)
+each_under cats k = line (under_line cats k)
 
 -- The lines of `body` (S22) in groups: the first four, the `under=` lines, the number of types, and the rest.
 abbrev pub first₁ : ℕ → Reader Front
-first₁ g = bind (line (numberLine (bytes "subjects=") 1 maxSubjects)) λ s. bind (line (numberLine (bytes "methods=") 1 maxMethods)) λ m. bind
-    (line (numberLine (bytes "cats=") 0 maxCategories)) λ cats.
+first₁ g = bind (line (number_line (bytes "subjects=") 1 max_subjects)) λ s. bind (line (number_line (bytes "methods=") 1 max_methods)) λ m. bind
+    (line (number_line (bytes "cats=") 0 max_categories)) λ cats.
     pure (record { subjects = s; methods = m; cats = cats })
 
 unfoldable pub first : Reader Front
-unfolding numberLine
-first = bind (line (numberLine (bytes "guide=") 1 newestForm)) first₁
+unfolding number_line
+first = bind (line (number_line (bytes "guide=") 1 newest_form)) first₁
 
-unfoldable pub afterCount : Front → List (List ℕ) → ℕ → Reader Table
-unfolding times oneType
-afterCount h links n = bind (times (oneType h.methods h.cats n) n 0 []) λ ts.
+unfoldable pub after_count : Front → List (List ℕ) → ℕ → Reader Table
+unfolding times one_type
+after_count h links n = bind (times (one_type h.methods h.cats n) n 0 []) λ ts.
     pure (record { subjects = h.subjects; methods = h.methods; cats = links; sheet = n; types = ts })
 
-unfoldable pub afterCats : Front → List (List ℕ) → Reader Table
-unfolding numberLine afterCount
-afterCats h links = bind (line (numberLine (bytes "types=") 1 maxSheetTypes)) (afterCount h links)
+unfoldable pub after_cats : Front → List (List ℕ) → Reader Table
+unfolding number_line after_count
+after_cats h links = bind (line (number_line (bytes "types=") 1 max_sheet_types)) (after_count h links)
 
-unfoldable pub afterFirst : Front → Reader Table
-unfolding times underLine afterCats
-afterFirst h = bind (times (eachUnder h.cats) h.cats 1 []) (afterCats h)
+unfoldable pub after_first : Front → Reader Table
+unfolding times under_line after_cats
+after_first h = bind (times (each_under h.cats) h.cats 1 []) (after_cats h)

@@ -1,14 +1,14 @@
 // The sheet reader (docs/SPEC.md S). `read` takes any bytes and gives a table, or the number of a refusal and the byte offset of the line.
-// What comes of it is crate `spec_sheet`'s definition `read`, and every byte of it is determined by it (specs/Result.antt, `sheetFor`).
+// What comes of it is crate `spec_sheet`'s definition `read`, and every byte of it is determined by it (specs/Result.antt, `sheet_for`).
 // Lines are found by crate `text_read` and read by `sheet_read_line`, the types by `sheet_read_type`; here they are put together.
 ghost use Rattle.std.specs.Prelude.{◌≡◌, List, [], ℕ, ◌≤◌, length, drop};
-ghost use Rattle.spec_model.specs.Table.{Table, maxMethods, maxCategories, maxSheetTypes, maxTypes};
-ghost use Rattle.table_record.specs.Store.{types_in, linksIn, typesTo, emptyTypes, emptyLinks};
-ghost use Rattle.table_record.specs.Records.{linkBytes};
+ghost use Rattle.spec_model.specs.Table.{Table, max_methods, max_categories, max_sheet_types, max_types};
+ghost use Rattle.table_record.specs.Store.{types_in, links_in, types_to, empty_types, empty_links};
+ghost use Rattle.table_record.specs.Records.{link_bytes};
 ghost use Rattle.spec_sheet.specs.Lines.{split, bind, times};
-ghost use Rattle.spec_sheet.specs.Sheet.{malformed, sheetResult, ending, read as readSheet};
-ghost use Rattle.sheet_read_type.specs.View.{doneBy, OnDone};
-ghost use Rattle.sheet_read.specs.View.{firstBy, FirstWithin, linksTo, eachUnder, first, afterCount, afterFirst, sheetFor, readIntoOf};
+ghost use Rattle.spec_sheet.specs.Sheet.{malformed, sheet_result, ending, read as read_sheet};
+ghost use Rattle.sheet_read_type.specs.View.{done_by, OnDone};
+ghost use Rattle.sheet_read.specs.View.{first_by, FirstWithin, links_to, each_under, first, after_count, after_first, sheet_for, read_into_of};
 
 use base_numbers::refusal;
 use sheet_read_line::UnderGot;
@@ -55,10 +55,10 @@ pub struct Sheet {
 
 // The `under=` lines of the categories (S22), stored in lent bytes that hold nothing.
 fn links_into(s: &[u8], c: Cursor, cats: usize, l: &mut [u8; LINK_BYTES]) -> Done
-    requires { (cats ≤ maxCategories) × (l.old ≡ emptyLinks) }
-    ensures is { doneBy s.now (linksTo cats (linksIn l.new)) result
-        ≡ times (eachUnder cats) cats 1 [] c.at (split (drop c.at s.now)) }
-    ensures exact { OnDone result (l.new ≡ linkBytes (linksTo cats (linksIn l.new))) }
+    requires { (cats ≤ max_categories) × (l.old ≡ empty_links) }
+    ensures is { done_by s.now (links_to cats (links_in l.new)) result
+        ≡ times (each_under cats) cats 1 [] c.at (split (drop c.at s.now)) }
+    ensures exact { OnDone result (l.new ≡ link_bytes (links_to cats (links_in l.new))) }
 {
     let mut j: usize = 0;
     let mut at = c.at;
@@ -80,9 +80,9 @@ fn links_into(s: &[u8], c: Cursor, cats: usize, l: &mut [u8; LINK_BYTES]) -> Don
 
 // The last line, and nothing behind it (S10). Only then are the signatures tested: 3 at the last line where a type stands in one that may not (S6, S13).
 fn last_line(s: &[u8], c: Cursor, b: &[u8; TYPE_BYTES], n: usize, m: usize) -> Done
-    requires { (n ≤ maxTypes) × (m ≤ maxMethods) }
-    ensures { (t : Table) → t.types ≡ typesTo m n n (types_in b.now)
-        → doneBy s.now t result ≡ ending t c.at (split (drop c.at s.now)) }
+    requires { (n ≤ max_types) × (m ≤ max_methods) }
+    ensures { (t : Table) → t.types ≡ types_to m n n (types_in b.now)
+        → done_by s.now t result ≡ ending t c.at (split (drop c.at s.now)) }
 {
     let g = sheet_read_line::next_end(s, c);
     match g {
@@ -101,7 +101,7 @@ fn last_line(s: &[u8], c: Cursor, b: &[u8; TYPE_BYTES], n: usize, m: usize) -> D
 
 // The first four lines (S22).
 fn first_lines(s: &[u8]) -> First
-    ensures is { firstBy s.now result ≡ first 0 (split s.now) }
+    ensures is { first_by s.now result ≡ first 0 (split s.now) }
     ensures within { FirstWithin result }
 {
     let c = Cursor::start();
@@ -145,7 +145,7 @@ fn refused(
     types: &mut [u8; TYPE_BYTES],
     links: &mut [u8; LINK_BYTES],
 ) -> ReadInto
-    ensures { readIntoOf result types.new links.new ≡ sheetFor (malformed refusal at) }
+    ensures { read_into_of result types.new links.new ≡ sheet_for (malformed refusal at) }
 {
     *types = table_record::empty_types();
     *links = table_record::empty_links();
@@ -166,10 +166,10 @@ fn after_count(
     types: &mut [u8; TYPE_BYTES],
     links: &mut [u8; LINK_BYTES],
 ) -> ReadInto
-    requires { (h.methods ≤ maxMethods) × (h.cats ≤ maxCategories) × (n ≤ maxSheetTypes) × (types.old ≡ emptyTypes) }
-    ensures { (cs : List (List ℕ)) → links.old ≡ linkBytes cs → length cs ≡ h.cats
-        → readIntoOf result types.new links.new
-        ≡ sheetFor (sheetResult (bind (afterCount h cs n) ending c.at (split (drop c.at s.now)))) }
+    requires { (h.methods ≤ max_methods) × (h.cats ≤ max_categories) × (n ≤ max_sheet_types) × (types.old ≡ empty_types) }
+    ensures { (cs : List (List ℕ)) → links.old ≡ link_bytes cs → length cs ≡ h.cats
+        → read_into_of result types.new links.new
+        ≡ sheet_for (sheet_result (bind (after_count h cs n) ending c.at (split (drop c.at s.now)))) }
 {
     let t = sheet_read_type::types_into(s, c, h.methods, h.cats, n, types);
     let f = match t {
@@ -206,9 +206,9 @@ fn after_first(
     types: &mut [u8; TYPE_BYTES],
     links: &mut [u8; LINK_BYTES],
 ) -> ReadInto
-    requires { (h.methods ≤ maxMethods) × (h.cats ≤ maxCategories) × (types.old ≡ emptyTypes) × (links.old ≡ emptyLinks) }
-    ensures { readIntoOf result types.new links.new
-        ≡ sheetFor (sheetResult (bind (afterFirst h) ending c.at (split (drop c.at s.now)))) }
+    requires { (h.methods ≤ max_methods) × (h.cats ≤ max_categories) × (types.old ≡ empty_types) × (links.old ≡ empty_links) }
+    ensures { read_into_of result types.new links.new
+        ≡ sheet_for (sheet_result (bind (after_first h) ending c.at (split (drop c.at s.now)))) }
 {
     let u = links_into(s, c, h.cats, links);
     let d = match u {
@@ -226,7 +226,7 @@ fn after_first(
 
 // Sheet read into lent bytes, for any text; what the bytes held before is gone. Where a sheet is accepted there is no line to point at, and `at` is 0 (S33).
 pub fn read_into(s: &[u8], types: &mut [u8; TYPE_BYTES], links: &mut [u8; LINK_BYTES]) -> ReadInto
-    ensures { readIntoOf result types.new links.new ≡ sheetFor (readSheet s.now) }
+    ensures { read_into_of result types.new links.new ≡ sheet_for (read_sheet s.now) }
 {
     *types = table_record::empty_types();
     *links = table_record::empty_links();
@@ -239,7 +239,7 @@ pub fn read_into(s: &[u8], types: &mut [u8; TYPE_BYTES], links: &mut [u8; LINK_B
 
 // The same, with the bytes of the table in the result.
 pub fn read(s: &[u8]) -> Sheet
-    ensures { result ≡ sheetFor (readSheet s.now) }
+    ensures { result ≡ sheet_for (read_sheet s.now) }
 {
     let mut types = table_record::empty_types();
     let mut links = table_record::empty_links();

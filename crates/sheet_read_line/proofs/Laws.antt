@@ -10,118 +10,118 @@ use lib.ListN.{length, get_or, take, drop}
 use lib.Seq.{length-take-le, get_or-take}
 use borrow.Author.Tests.{ltb-true, leb-true, leb-false, lt-ltb, le-ltb}
 use Rattle.spec_model.specs.Basics.{Res, refuse, ok, try, need, all}
-use Rattle.spec_model.specs.Table.{Rep, ref, w32, w64, maxSheetTypes, maxBroader}
-use Rattle.spec_model.specs.Check.{linksOf}
+use Rattle.spec_model.specs.Table.{Rep, ref, w32, w64, max_sheet_types, max_broader}
+use Rattle.spec_model.specs.Check.{links_of}
 use Rattle.spec_model.proofs.Rules.{first, second}
-use Rattle.spec_model.specs.Refusals.{form, outOfRange, notBelow}
+use Rattle.spec_model.specs.Refusals.{form, out_of_range, not_below}
 use Rattle.table_record.proofs.Lists.{lt-or-ge}
 use Rattle.spec_sheet.specs.Lines.{bytes, starts, same, keyed, choice}
 use Rattle.spec_sheet.specs.Numbers.{fail, took, whole, numbers}
-use Rattle.spec_sheet.specs.Text.{repText, ownText, endText}
-use Rattle.spec_sheet.specs.Sheet.{repLine, ownLine, endLine, underLine, below}
+use Rattle.spec_sheet.specs.Text.{rep_text, own_text, end_text}
+use Rattle.spec_sheet.specs.Sheet.{rep_line, own_line, end_line, under_line, below}
 use Rattle.text_read.specs.declared.Numbers.{Numbers}
-use Rattle.text_read.specs.View.{items_of, numbersOf, RestEmpty, maxNumbers}
+use Rattle.text_read.specs.View.{items_of, numbers_of, RestEmpty, max_numbers}
 use Rattle.text_read.proofs.Laws.{from-here, at-end}
 use Rattle.sheet_read_line.specs.View.{LinksExact}
 
 -- every line kind refuses an empty line
-pub rep-empty : repLine [] ≡ refuse form
-unfolding repLine choice starts
+pub rep-empty : rep_line [] ≡ refuse form
+unfolding rep_line choice starts
 rep-empty = refl
 
-pub own-empty : ownLine [] ≡ refuse form
-unfolding ownLine choice starts
+pub own-empty : own_line [] ≡ refuse form
+unfolding own_line choice starts
 own-empty = refl
 
-pub end_empty : endLine [] ≡ refuse form
-unfolding endLine choice starts
+pub end_empty : end_line [] ≡ refuse form
+unfolding end_line choice starts
 end_empty = refl
 
-pub under-empty : (cats k : ℕ) → underLine cats k [] ≡ refuse form
-unfolding underLine keyed starts
+pub under-empty : (cats k : ℕ) → under_line cats k [] ≡ refuse form
+unfolding under_line keyed starts
 under-empty cats k = refl
 
 -- The last line.
-pub end-yes : (l : List ℕ) → same endText l ≡ true → ok tt ≡ endLine l
-unfolding endLine choice
+pub end-yes : (l : List ℕ) → same end_text l ≡ true → ok tt ≡ end_line l
+unfolding end_line choice
 end-yes l e = ap (λ z. cond z (ok tt) (refuse form)) (sym e)
 
-pub end-no : (l : List ℕ) → same endText l ≡ false → refuse form ≡ endLine l
-unfolding endLine choice
+pub end-no : (l : List ℕ) → same end_text l ≡ false → refuse form ≡ end_line l
+unfolding end_line choice
 end-no l e = ap (λ z. cond z (ok tt) (refuse form)) (sym e)
 
 -- Words.
 module _ (l : List ℕ) where
   rep-third : Res Rep
-  rep-third = cond (same (repText w64) l) (ok w64) (refuse form)
+  rep-third = cond (same (rep_text w64) l) (ok w64) (refuse form)
 
   rep-second : Res Rep
-  rep-second = cond (same (repText w32) l) (ok w32) rep-third
+  rep-second = cond (same (rep_text w32) l) (ok w32) rep-third
 
-  pub rep-ref : same (repText ref) l ≡ true → ok ref ≡ repLine l
-  unfolding repLine choice rep-second rep-third
+  pub rep-ref : same (rep_text ref) l ≡ true → ok ref ≡ rep_line l
+  unfolding rep_line choice rep-second rep-third
   rep-ref e = ap (λ z. cond z (ok ref) rep-second) (sym e)
 
-  module _ (a : same (repText ref) l ≡ false) where
-    to-second : rep-second ≡ repLine l
-    unfolding repLine choice rep-second rep-third
+  module _ (a : same (rep_text ref) l ≡ false) where
+    to-second : rep-second ≡ rep_line l
+    unfolding rep_line choice rep-second rep-third
     to-second = ap (λ z. cond z (ok ref) rep-second) (sym a)
 
-    pub rep-w32 : same (repText w32) l ≡ true → ok w32 ≡ repLine l
+    pub rep-w32 : same (rep_text w32) l ≡ true → ok w32 ≡ rep_line l
     unfolding rep-second
     rep-w32 e = ap (λ z. cond z (ok w32) rep-third) (sym e) ∙ to-second
 
-    module _ (b : same (repText w32) l ≡ false) where
-      to-third : rep-third ≡ repLine l
+    module _ (b : same (rep_text w32) l ≡ false) where
+      to-third : rep-third ≡ rep_line l
       unfolding rep-second
       to-third = ap (λ z. cond z (ok w32) rep-third) (sym b) ∙ to-second
 
-      pub rep-w64 : same (repText w64) l ≡ true → ok w64 ≡ repLine l
+      pub rep-w64 : same (rep_text w64) l ≡ true → ok w64 ≡ rep_line l
       unfolding rep-third
       rep-w64 e = ap (λ z. cond z (ok w64) (refuse form)) (sym e) ∙ to-third
 
-      pub rep-none : same (repText w64) l ≡ false → refuse form ≡ repLine l
+      pub rep-none : same (rep_text w64) l ≡ false → refuse form ≡ rep_line l
       unfolding rep-third
       rep-none e = ap (λ z. cond z (ok w64) (refuse form)) (sym e) ∙ to-third
 
   own-second : Res Bool
-  own-second = cond (same (ownText false) l) (ok false) (refuse form)
+  own-second = cond (same (own_text false) l) (ok false) (refuse form)
 
-  pub own-yes : same (ownText true) l ≡ true → ok true ≡ ownLine l
-  unfolding ownLine choice own-second
+  pub own-yes : same (own_text true) l ≡ true → ok true ≡ own_line l
+  unfolding own_line choice own-second
   own-yes e = ap (λ z. cond z (ok true) own-second) (sym e)
 
-  module _ (a : same (ownText true) l ≡ false) where
-    to-own : own-second ≡ ownLine l
-    unfolding ownLine choice own-second
+  module _ (a : same (own_text true) l ≡ false) where
+    to-own : own-second ≡ own_line l
+    unfolding own_line choice own-second
     to-own = ap (λ z. cond z (ok true) own-second) (sym a)
 
-    pub own-no : same (ownText false) l ≡ true → ok false ≡ ownLine l
+    pub own-no : same (own_text false) l ≡ true → ok false ≡ own_line l
     unfolding own-second
     own-no e = ap (λ z. cond z (ok false) (refuse form)) (sym e) ∙ to-own
 
-    pub own-none : same (ownText false) l ≡ false → refuse form ≡ ownLine l
+    pub own-none : same (own_text false) l ≡ false → refuse form ≡ own_line l
     unfolding own-second
     own-none e = ap (λ z. cond z (ok false) (refuse form)) (sym e) ∙ to-own
 
 -- Numbers below a bound, one after the other.
-module _ (t : Numbers) (i n : ℕ) (few : t.count ≤ maxNumbers) (inv : all (below n) (numbersOf t) ≡ all (below n) (drop i (numbersOf t))) where
-  there : length (numbersOf t) ≡ t.count
+module _ (t : Numbers) (i n : ℕ) (few : t.count ≤ max_numbers) (inv : all (below n) (numbers_of t) ≡ all (below n) (drop i (numbers_of t))) where
+  there : length (numbers_of t) ≡ t.count
   there = length-take-le t.count (items_of t) few
 
-  here : i < t.count → all (below n) (numbersOf t) ≡ ltb (get_or (items_of t) i 0) n && all (below n) (drop (i + 1) (numbersOf t))
+  here : i < t.count → all (below n) (numbers_of t) ≡ ltb (get_or (items_of t) i 0) n && all (below n) (drop (i + 1) (numbers_of t))
   here h =
-      inv ∙ ap (all (below n)) (from-here (numbersOf t) i (omega (arith, there)))
-      ∙ ap (λ z. ltb z n && all (below n) (drop (i + 1) (numbersOf t))) (get_or-take t.count (items_of t) i 0 h)
+      inv ∙ ap (all (below n)) (from-here (numbers_of t) i (omega (arith, there)))
+      ∙ ap (λ z. ltb z n && all (below n) (drop (i + 1) (numbers_of t))) (get_or-take t.count (items_of t) i 0 h)
 
-  pub below-not : i < t.count → (x : ℕ) → x ≡ get_or (items_of t) i 0 → n ≤ x → false ≡ all (below n) (numbersOf t)
-  below-not h x e k = sym (here h ∙ ap (λ z. z && all (below n) (drop (i + 1) (numbersOf t))) (ap (λ z. ltb z n) (sym e) ∙ le-ltb x n k))
+  pub below-not : i < t.count → (x : ℕ) → x ≡ get_or (items_of t) i 0 → n ≤ x → false ≡ all (below n) (numbers_of t)
+  below-not h x e k = sym (here h ∙ ap (λ z. z && all (below n) (drop (i + 1) (numbers_of t))) (ap (λ z. ltb z n) (sym e) ∙ le-ltb x n k))
 
-  pub below_next : i < t.count → (x : ℕ) → x ≡ get_or (items_of t) i 0 → x < n → all (below n) (numbersOf t) ≡ all (below n) (drop (i + 1) (numbersOf t))
-  below_next h x e k = here h ∙ ap (λ z. z && all (below n) (drop (i + 1) (numbersOf t))) (ap (λ z. ltb z n) (sym e) ∙ lt-ltb x n k)
+  pub below_next : i < t.count → (x : ℕ) → x ≡ get_or (items_of t) i 0 → x < n → all (below n) (numbers_of t) ≡ all (below n) (drop (i + 1) (numbers_of t))
+  below_next h x e k = here h ∙ ap (λ z. z && all (below n) (drop (i + 1) (numbers_of t))) (ap (λ z. ltb z n) (sym e) ∙ lt-ltb x n k)
 
-  pub below_all : t.count ≤ i → true ≡ all (below n) (numbersOf t)
-  below_all h = sym (inv ∙ ap (all (below n)) (at-end (numbersOf t) i (omega (arith, there))))
+  pub below_all : t.count ≤ i → true ≡ all (below n) (numbers_of t)
+  below_all h = sym (inv ∙ ap (all (below n)) (at-end (numbers_of t) i (omega (arith, there))))
 
 -- Numbers as bytes: those that are there are below n, the others are 0.
 low-at : (n : ℕ) (xs : List ℕ) (i : ℕ) → all (below n) xs ≡ true → i < length xs → get_or xs i 0 < n
@@ -129,15 +129,15 @@ low-at n [] i h k = absurd (omega arith)
 low-at n (x ∷ xs) zero h k = ltb-true x n (first (ltb x n) (all (below n) xs) h)
 low-at n (x ∷ xs) (suc i) h k = low-at n xs i (second (ltb x n) (all (below n) xs) h) (omega arith)
 
-module _ (n : ℕ) (t : Numbers) (few : t.count ≤ maxNumbers) (rest : RestEmpty t) where
-  pub item-small : all (below n) (numbersOf t) ≡ true → n ≤ maxSheetTypes → (i : ℕ) → get_or (items_of t) i 0 < 256
+module _ (n : ℕ) (t : Numbers) (few : t.count ≤ max_numbers) (rest : RestEmpty t) where
+  pub item-small : all (below n) (numbers_of t) ≡ true → n ≤ max_sheet_types → (i : ℕ) → get_or (items_of t) i 0 < 256
   item-small h k i = go (lt-or-ge i t.count)
     where
-      there : length (numbersOf t) ≡ t.count
+      there : length (numbers_of t) ≡ t.count
       there = length-take-le t.count (items_of t) few
 
       go : (i < t.count) ⊎ (t.count ≤ i) → get_or (items_of t) i 0 < 256
-      go (inl l) = let e = get_or-take t.count (items_of t) i 0 l in let w = low-at n (numbersOf t) i h (omega (arith, there)) in omega (arith, e, w)
+      go (inl l) = let e = get_or-take t.count (items_of t) i 0 l in let w = low-at n (numbers_of t) i h (omega (arith, there)) in omega (arith, e, w)
       go (inr l) = omega (arith, rest i l)
 
 -- a bound that is allowed
@@ -155,64 +155,64 @@ all-leb c (x ∷ xs) = ap (λ z. z && all (λ n. leb n c) xs) (one x) ∙ ap (λ
 -- An `under=` line.
 module _ (c k : ℕ) (l : List ℕ) where
   lower : List ℕ → Res (List ℕ)
-  lower xs = need (all (λ n. ltb n k) xs) notBelow λ _. ok xs
+  lower xs = need (all (λ n. ltb n k) xs) not_below λ _. ok xs
 
   ranged : List ℕ → Res (List ℕ)
-  ranged xs = need (all (λ n. leb n c) xs) outOfRange λ _. lower xs
+  ranged xs = need (all (λ n. leb n c) xs) out_of_range λ _. lower xs
 
   after-key : Bool → Res (List ℕ)
-  after-key b = try (need b form λ _. ok (drop 6 l)) λ r. try (whole (numbers maxBroader [] r)) ranged
+  after-key b = try (need b form λ _. ok (drop 6 l)) λ r. try (whole (numbers max_broader [] r)) ranged
 
-  line_of : after-key (starts (bytes "under=") l) ≡ underLine c k l
-  unfolding underLine keyed after-key ranged lower
+  line_of : after-key (starts (bytes "under=") l) ≡ under_line c k l
+  unfolding under_line keyed after-key ranged lower
   line_of = refl
 
-  pub under-key : starts (bytes "under=") l ≡ false → refuse form ≡ underLine c k l
+  pub under-key : starts (bytes "under=") l ≡ false → refuse form ≡ under_line c k l
   unfolding after-key
   under-key e = ap after-key (sym e) ∙ line_of
 
   module _ (h : starts (bytes "under=") l ≡ true) where
-    behind-key : try (whole (numbers maxBroader [] (drop 6 l))) ranged ≡ underLine c k l
+    behind-key : try (whole (numbers max_broader [] (drop 6 l))) ranged ≡ under_line c k l
     unfolding after-key
     behind-key = ap after-key (sym h) ∙ line_of
 
-    pub under-wrong : fail ≡ numbers maxBroader [] (drop 6 l) → refuse form ≡ underLine c k l
+    pub under-wrong : fail ≡ numbers max_broader [] (drop 6 l) → refuse form ≡ under_line c k l
     under-wrong e = ap (λ z. try (whole z) ranged) e ∙ behind-key
 
-    module _ (xs : List ℕ) (e : ℕ) (q : took xs (drop e l) ≡ numbers maxBroader [] (drop 6 l)) where
-      taken : try (whole (took xs (drop e l))) ranged ≡ underLine c k l
+    module _ (xs : List ℕ) (e : ℕ) (q : took xs (drop e l) ≡ numbers max_broader [] (drop 6 l)) where
+      taken : try (whole (took xs (drop e l))) ranged ≡ under_line c k l
       taken = ap (λ z. try (whole z) ranged) q ∙ behind-key
 
-      pub under-behind : e < length l → refuse form ≡ underLine c k l
+      pub under-behind : e < length l → refuse form ≡ under_line c k l
       under-behind j = ap (λ z. try (whole (took xs z)) ranged) (sym (from-here l e j)) ∙ taken
 
       module _ (j : length l ≤ e) where
-        alone : ranged xs ≡ underLine c k l
+        alone : ranged xs ≡ under_line c k l
         alone = ap (λ z. try (whole (took xs z)) ranged) (sym (at-end l e j)) ∙ taken
 
-        pub under-above : all (below (c + 1)) xs ≡ false → refuse outOfRange ≡ underLine c k l
+        pub under-above : all (below (c + 1)) xs ≡ false → refuse out_of_range ≡ under_line c k l
         unfolding ranged
-        under-above b = ap (λ z. need z outOfRange λ _. lower xs) (sym (all-leb c xs ∙ b)) ∙ alone
+        under-above b = ap (λ z. need z out_of_range λ _. lower xs) (sym (all-leb c xs ∙ b)) ∙ alone
 
         module _ (b : all (below (c + 1)) xs ≡ true) where
-          known : lower xs ≡ underLine c k l
+          known : lower xs ≡ under_line c k l
           unfolding ranged
-          known = ap (λ z. need z outOfRange λ _. lower xs) (sym (all-leb c xs ∙ b)) ∙ alone
+          known = ap (λ z. need z out_of_range λ _. lower xs) (sym (all-leb c xs ∙ b)) ∙ alone
 
-          pub under-high : all (below k) xs ≡ false → refuse notBelow ≡ underLine c k l
+          pub under-high : all (below k) xs ≡ false → refuse not_below ≡ under_line c k l
           unfolding lower
-          under-high d = ap (λ z. need z notBelow λ _. ok xs) (sym d) ∙ known
+          under-high d = ap (λ z. need z not_below λ _. ok xs) (sym d) ∙ known
 
-          pub under-good : all (below k) xs ≡ true → ok xs ≡ underLine c k l
+          pub under-good : all (below k) xs ≡ true → ok xs ≡ under_line c k l
           unfolding lower
-          under-good d = ap (λ z. need z notBelow λ _. ok xs) (sym d) ∙ known
+          under-good d = ap (λ z. need z not_below λ _. ok xs) (sym d) ∙ known
 
 -- One or two numbers as links: they are what was read, and the record of what they say, in which a missing second one is 0.
 pub links-are : (t : Numbers) (n a b : ℕ) → n ≡ t.count → a ≡ t.first → b ≡ t.second → 1 ≤ t.count → t.count ≤ 2 → RestEmpty t
-    → (linksOf (record { count = n; first = a; second = b }) ≡ numbersOf t) × LinksExact (record { count = n; first = a; second = b })
+    → (links_of (record { count = n; first = a; second = b }) ≡ numbers_of t) × LinksExact (record { count = n; first = a; second = b })
 links-are t n a b e p q h k z = go t.count e h k (z 1)
   where
-    go : (c : ℕ) → n ≡ c → 1 ≤ c → c ≤ 2 → (c ≤ 1 → t.second ≡ 0) → (linksOf (record { count = n; first = a; second = b }) ≡ take c (items_of t))
+    go : (c : ℕ) → n ≡ c → 1 ≤ c → c ≤ 2 → (c ≤ 1 → t.second ≡ 0) → (links_of (record { count = n; first = a; second = b }) ≡ take c (items_of t))
         × LinksExact (record { count = n; first = a; second = b })
     go zero e h k z = absurd (omega arith)
     go (suc zero) e h k z = let w = q ∙ z (omega arith) in (rw (e, p), rw (e, p, w))

@@ -3,12 +3,12 @@
 // is read, `exact` that the record is the one that stands for it: an unused slot 0 (B13).
 ghost use Rattle.std.specs.Prelude.{◌≡◌, ◌≤◌, ◌<◌, get_or, drop};
 ghost use Rattle.spec_model.specs.Basics.{all};
-ghost use Rattle.spec_model.specs.Table.{maxCategories};
-ghost use Rattle.spec_model.specs.Check.{repOf};
+ghost use Rattle.spec_model.specs.Table.{max_categories};
+ghost use Rattle.spec_model.specs.Check.{rep_of};
 ghost use Rattle.spec_sheet.specs.Lines.{split, line};
-ghost use Rattle.spec_sheet.specs.Sheet.{repLine, ownLine, endLine, underLine, below};
-ghost use Rattle.text_read.specs.View.{valueBy, AtMost, read_by, GotAtMost, items_of, numbersOf, maxNumbers};
-ghost use Rattle.sheet_read_line.specs.View.{yes_of, underBy, underRead, UnderExact, UnderGotExact};
+ghost use Rattle.spec_sheet.specs.Sheet.{rep_line, own_line, end_line, under_line, below};
+ghost use Rattle.text_read.specs.View.{value_by, AtMost, read_by, GotAtMost, items_of, numbers_of, max_numbers};
+ghost use Rattle.sheet_read_line.specs.View.{yes_of, under_by, under_read, UnderExact, UnderGotExact};
 
 use base_numbers::{narrow, refusal};
 use table_record::{Counts, Head, Links};
@@ -31,7 +31,7 @@ pub enum UnderGot {
 
 // A `rep=` line (S25); another word is 1.
 fn read_rep(l: &[u8]) -> Value
-    ensures is { valueBy repOf result ≡ repLine l.now }
+    ensures is { value_by rep_of result ≡ rep_line l.now }
     ensures within { AtMost 2 result }
 {
     if text_read::is_word(l, b"rep=ref") {
@@ -47,7 +47,7 @@ fn read_rep(l: &[u8]) -> Value
 }
 
 pub fn next_rep(s: &[u8], c: Cursor) -> Got
-    ensures is { read_by repOf s.now c.at result ≡ line repLine c.at (split (drop c.at s.now)) }
+    ensures is { read_by rep_of s.now c.at result ≡ line rep_line c.at (split (drop c.at s.now)) }
     ensures within { GotAtMost 2 result }
 {
     let d = next_line(s, c);
@@ -58,7 +58,7 @@ pub fn next_rep(s: &[u8], c: Cursor) -> Got
 
 // An `own=` line (S25).
 fn read_own(l: &[u8]) -> Value
-    ensures is { valueBy yes_of result ≡ ownLine l.now }
+    ensures is { value_by yes_of result ≡ own_line l.now }
     ensures within { AtMost 1 result }
 {
     if text_read::is_word(l, b"own=yes") {
@@ -71,7 +71,7 @@ fn read_own(l: &[u8]) -> Value
 }
 
 pub fn next_own(s: &[u8], c: Cursor) -> Got
-    ensures is { read_by yes_of s.now c.at result ≡ line ownLine c.at (split (drop c.at s.now)) }
+    ensures is { read_by yes_of s.now c.at result ≡ line own_line c.at (split (drop c.at s.now)) }
     ensures within { GotAtMost 1 result }
 {
     let d = next_line(s, c);
@@ -82,7 +82,7 @@ pub fn next_own(s: &[u8], c: Cursor) -> Got
 
 // The last line (S22).
 fn read_end(l: &[u8]) -> Value
-    ensures { valueBy (λ n. tt) result ≡ endLine l.now }
+    ensures { value_by (λ n. tt) result ≡ end_line l.now }
 {
     if text_read::is_word(l, b"end=sheet") {
         return Value::Is(0);
@@ -91,7 +91,7 @@ fn read_end(l: &[u8]) -> Value
 }
 
 pub fn next_end(s: &[u8], c: Cursor) -> Got
-    ensures { read_by (λ n. tt) s.now c.at result ≡ line endLine c.at (split (drop c.at s.now)) }
+    ensures { read_by (λ n. tt) s.now c.at result ≡ line end_line c.at (split (drop c.at s.now)) }
 {
     let d = next_line(s, c);
     let l = between(s, c, d);
@@ -101,7 +101,7 @@ pub fn next_end(s: &[u8], c: Cursor) -> Got
 
 // The number at place i of those that there is room for.
 fn item_at(t: Numbers, i: usize) -> usize
-    requires { i < maxNumbers }
+    requires { i < max_numbers }
     ensures { result ≡ get_or (items_of t) i 0 }
 {
     if i == 0 {
@@ -118,8 +118,8 @@ fn item_at(t: Numbers, i: usize) -> usize
 
 // Whether every number is below n.
 pub fn all_below(t: Numbers, n: usize) -> bool
-    requires { t.count ≤ maxNumbers }
-    ensures { result ≡ all (below n) (numbersOf t) }
+    requires { t.count ≤ max_numbers }
+    ensures { result ≡ all (below n) (numbers_of t) }
 {
     let count = t.count;
     let mut i: usize = 0;
@@ -134,8 +134,8 @@ pub fn all_below(t: Numbers, n: usize) -> bool
 
 // An `under=` line, of category k (S24): 2 where a number names no category, else 3 where one is not below k (S12).
 fn read_under(l: &[u8], cats: usize, k: usize) -> Under
-    requires { (cats ≤ maxCategories) × (k ≤ maxCategories) }
-    ensures is { underBy result ≡ underLine cats k l.now }
+    requires { (cats ≤ max_categories) × (k ≤ max_categories) }
+    ensures is { under_by result ≡ under_line cats k l.now }
     ensures exact { UnderExact result }
 {
     if !text_read::begins(l, b"under=") {
@@ -162,8 +162,8 @@ fn read_under(l: &[u8], cats: usize, k: usize) -> Under
 }
 
 pub fn next_under(s: &[u8], c: Cursor, cats: usize, k: usize) -> UnderGot
-    requires { (cats ≤ maxCategories) × (k ≤ maxCategories) }
-    ensures is { underRead s.now c.at result ≡ line (underLine cats k) c.at (split (drop c.at s.now)) }
+    requires { (cats ≤ max_categories) × (k ≤ max_categories) }
+    ensures is { under_read s.now c.at result ≡ line (under_line cats k) c.at (split (drop c.at s.now)) }
     ensures exact { UnderGotExact result }
 {
     let d = next_line(s, c);

@@ -9,19 +9,19 @@ use native.Mathlib.Numerals.{add-one}
 use lib.Dec.{eqb}
 use lib.ListN.{length, get_or, take, drop}
 use borrow.Author.Tests.{lt-ltb, le-ltb, eq-eqb, ne_eqb}
-use Rattle.spec_model.specs.Basics.{Res, refuse, ok, try, need, all, unlessMissing}
-use Rattle.spec_model.specs.Table.{State, denied, optional, avail, unavail, Method, maxArguments, permit, bare}
-use Rattle.spec_model.specs.Check.{state_of, answer_of, methodOf}
+use Rattle.spec_model.specs.Basics.{Res, refuse, ok, try, need, all, unless_missing}
+use Rattle.spec_model.specs.Table.{State, denied, optional, avail, unavail, Method, max_arguments, permit, bare}
+use Rattle.spec_model.specs.Check.{state_of, answer_of, method_of}
 use Rattle.spec_model.proofs.Rules.{never}
-use Rattle.spec_model.specs.Refusals.{form, outOfRange}
+use Rattle.spec_model.specs.Refusals.{form, out_of_range}
 use Rattle.spec_sheet.specs.Lines.{starts, same}
-use Rattle.spec_sheet.specs.Numbers.{Scan, fail, took, bindScan, whole, number, numbers}
-use Rattle.spec_sheet.specs.Text.{stateText}
-use Rattle.spec_sheet.specs.Sheet.{closing, arguments, answer, below, signature, methodLine}
+use Rattle.spec_sheet.specs.Numbers.{Scan, fail, took, bind_scan, whole, number, numbers}
+use Rattle.spec_sheet.specs.Text.{state_text}
+use Rattle.spec_sheet.specs.Sheet.{closing, arguments, answer, below, signature, method_line}
 use Rattle.text_read.specs.declared.Numbers.{Numbers}
-use Rattle.text_read.specs.View.{scanned, result, items_of, numbersOf, RestEmpty, noNumbers, maxNumbers}
+use Rattle.text_read.specs.View.{scanned, result, items_of, numbers_of, RestEmpty, no_numbers, max_numbers}
 use Rattle.text_read.proofs.Laws.{from-here, at-end, none-empty}
-use Rattle.sheet_read_method.specs.View.{ArgsWithin, bareLine, Opens}
+use Rattle.sheet_read_method.specs.View.{ArgsWithin, bare_line, Opens}
 use Rattle.sheet_read_method.specs.declared.Opening.{Opening}
 use Rattle.sheet_read_method.specs.declared.Opening.TheVariants.{Other, Signed}
 
@@ -30,16 +30,16 @@ pub result-refused : {A : Type 0} (nr : ℕ) (x : A) → 0 < nr → result nr x 
 result-refused nr x h = ap (λ z. cond z (ok x) (refuse nr)) (ne_eqb nr 0 (λ e. omega arith))
 
 -- an empty line is refused
-pub method-empty : (n : ℕ) → methodLine n [] ≡ refuse form
-unfolding methodLine starts
+pub method-empty : (n : ℕ) → method_line n [] ≡ refuse form
+unfolding method_line starts
 method-empty n = refl
 
 -- Numbers as the bytes of a method: those that are there, and 0 for the others.
-module _ (n : ℕ) (t : Numbers) (few : t.count ≤ maxNumbers) (rest : RestEmpty t) (a b c d : ℕ) (p : a ≡ t.first) (q : b ≡ t.second) (r : c ≡ t.third) (s : d ≡ t.fourth) where
+module _ (n : ℕ) (t : Numbers) (few : t.count ≤ max_numbers) (rest : RestEmpty t) (a b c d : ℕ) (p : a ≡ t.first) (q : b ≡ t.second) (r : c ≡ t.third) (s : d ≡ t.fourth) where
   packed : ◌≡◌ {A = List ℕ} (a ∷ b ∷ c ∷ d ∷ []) (items_of t)
   packed = rw (p, q, r, s)
 
-  pub args-taken : take t.count (a ∷ b ∷ c ∷ d ∷ []) ≡ numbersOf t
+  pub args-taken : take t.count (a ∷ b ∷ c ∷ d ∷ []) ≡ numbers_of t
   args-taken = ap (take t.count) packed
 
   pub args-rest : (k : ℕ) → t.count ≤ k → get_or (a ∷ b ∷ c ∷ d ∷ []) k 0 ≡ 0
@@ -52,7 +52,7 @@ args_none l at h = sym (ap arguments (at-end l at (omega arith)))
 
 module _ (l : List ℕ) (at : ℕ) (h : at < length l) where
   abbrev listed : List ℕ → Scan (List ℕ)
-  listed p = bindScan (numbers maxArguments [] p) closing
+  listed p = bind_scan (numbers max_arguments [] p) closing
 
   args-here : arguments (drop at l) ≡ cond (eqb (get_or l at 0) 41) (took [] (drop (at + 1) l)) (listed (drop at l))
   unfolding arguments
@@ -65,12 +65,12 @@ module _ (l : List ℕ) (at : ℕ) (h : at < length l) where
     args-list : arguments (drop at l) ≡ listed (drop at l)
     args-list = args-here ∙ ap (λ z. cond z (took [] (drop (at + 1) l)) (listed (drop at l))) (ne_eqb (get_or l at 0) 41 ne)
 
-    pub args-wrong : fail ≡ numbers maxArguments [] (drop at l) → fail ≡ arguments (drop at l)
-    args-wrong q = sym (args-list ∙ ap (λ z. bindScan z closing) (sym q))
+    pub args-wrong : fail ≡ numbers max_arguments [] (drop at l) → fail ≡ arguments (drop at l)
+    args-wrong q = sym (args-list ∙ ap (λ z. bind_scan z closing) (sym q))
 
-    module _ (xs : List ℕ) (e : ℕ) (q : took xs (drop e l) ≡ numbers maxArguments [] (drop at l)) where
+    module _ (xs : List ℕ) (e : ℕ) (q : took xs (drop e l) ≡ numbers max_arguments [] (drop at l)) where
       closes : arguments (drop at l) ≡ closing xs (drop e l)
-      closes = args-list ∙ ap (λ z. bindScan z closing) (sym q)
+      closes = args-list ∙ ap (λ z. bind_scan z closing) (sym q)
 
       pub args-open : e ≡ length l → fail ≡ arguments (drop at l)
       args-open b = sym (closes ∙ ap (closing xs) (at-end l e (omega arith)))
@@ -82,22 +82,22 @@ module _ (l : List ℕ) (at : ℕ) (h : at < length l) where
       args-closed b w = sym (closes ∙ ap (closing xs) (from-here l e b) ∙ ap (λ z. cond z (took xs (drop (e + 1) l)) fail) (eq-eqb (get_or l e 0) 41 w))
 
   -- its answer
-  answer-here : answer (drop at l) ≡ cond (eqb (get_or l at 0) 45) (took none (drop (at + 1) l)) (bindScan (number (drop at l)) (λ n r. took (some n) r))
+  answer-here : answer (drop at l) ≡ cond (eqb (get_or l at 0) 45) (took none (drop (at + 1) l)) (bind_scan (number (drop at l)) (λ n r. took (some n) r))
   unfolding answer
-  answer-here = ap answer (from-here l at h) ∙ ap (λ z. cond (eqb (get_or l at 0) 45) (took none (drop (at + 1) l)) (bindScan (number z) (λ n r. took (some n) r))) (sym (from-here l at h))
+  answer-here = ap answer (from-here l at h) ∙ ap (λ z. cond (eqb (get_or l at 0) 45) (took none (drop (at + 1) l)) (bind_scan (number z) (λ n r. took (some n) r))) (sym (from-here l at h))
 
   pub answer-dash : get_or l at 0 ≡ 45 → took none (drop (at + 1) l) ≡ answer (drop at l)
-  answer-dash q = sym (answer-here ∙ ap (λ z. cond z (took none (drop (at + 1) l)) (bindScan (number (drop at l)) (λ n r. took (some n) r))) (eq-eqb (get_or l at 0) 45 q))
+  answer-dash q = sym (answer-here ∙ ap (λ z. cond z (took none (drop (at + 1) l)) (bind_scan (number (drop at l)) (λ n r. took (some n) r))) (eq-eqb (get_or l at 0) 45 q))
 
   module _ (ne : get_or l at 0 ≡ 45 → ⊥) where
-    answer-number : answer (drop at l) ≡ bindScan (number (drop at l)) (λ n r. took (some n) r)
-    answer-number = answer-here ∙ ap (λ z. cond z (took none (drop (at + 1) l)) (bindScan (number (drop at l)) (λ n r. took (some n) r))) (ne_eqb (get_or l at 0) 45 ne)
+    answer-number : answer (drop at l) ≡ bind_scan (number (drop at l)) (λ n r. took (some n) r)
+    answer-number = answer-here ∙ ap (λ z. cond z (took none (drop (at + 1) l)) (bind_scan (number (drop at l)) (λ n r. took (some n) r))) (ne_eqb (get_or l at 0) 45 ne)
 
     pub answer-wrong : fail ≡ number (drop at l) → fail ≡ answer (drop at l)
-    answer-wrong q = sym (answer-number ∙ ap (λ z. bindScan z (λ n r. took (some n) r)) (sym q))
+    answer-wrong q = sym (answer-number ∙ ap (λ z. bind_scan z (λ n r. took (some n) r)) (sym q))
 
     pub answer-took : (n e : ℕ) → took n (drop e l) ≡ number (drop at l) → took (answer_of (n + 1)) (drop e l) ≡ answer (drop at l)
-    answer-took n e q = ap (λ z. took (answer_of z) (drop e l)) (add-one n) ∙ sym (answer-number ∙ ap (λ z. bindScan z (λ n r. took (some n) r)) (sym q))
+    answer-took n e q = ap (λ z. took (answer_of z) (drop e l)) (add-one n) ∙ sym (answer-number ∙ ap (λ z. bind_scan z (λ n r. took (some n) r)) (sym q))
 
 pub answer-none : (l : List ℕ) (at : ℕ) → at ≡ length l → fail ≡ answer (drop at l)
 unfolding answer
@@ -106,30 +106,30 @@ answer-none l at h = sym (ap answer (at-end l at (omega arith)))
 -- What is handed out of arguments: none where the form is wrong, none between the brackets, and those up to the bracket that closes them.
 module _ (l : List ℕ) where
   abbrev Read : Numbers → Scan (List ℕ) → Type 0
-  Read t S = (scanned l t.right (numbersOf t) t.next ≡ S) × ArgsWithin (length l) t
+  Read t S = (scanned l t.right (numbers_of t) t.next ≡ S) × ArgsWithin (length l) t
 
-  pub none_read : (at : ℕ) (t : Numbers) (S : Scan (List ℕ)) → t ≡ noNumbers at → at ≤ length l → fail ≡ S → Read t S
+  pub none_read : (at : ℕ) (t : Numbers) (S : Scan (List ℕ)) → t ≡ no_numbers at → at ≤ length l → fail ≡ S → Read t S
   none_read at t S e h q = subst (λ (y : Numbers). Read y S) (sym e) (q, (h, omega arith, none-empty at))
 
   abbrev right : Numbers → Numbers
   right t = record { right = true; count = t.count; first = t.first; second = t.second; third = t.third; fourth = t.fourth; next = t.next }
 
-  pub empty-read : (at : ℕ) → at < length l → (t : Numbers) → t ≡ noNumbers (at + 1) → (S : Scan (List ℕ)) → took [] (drop (at + 1) l) ≡ S → Read (right t) S
+  pub empty-read : (at : ℕ) → at < length l → (t : Numbers) → t ≡ no_numbers (at + 1) → (S : Scan (List ℕ)) → took [] (drop (at + 1) l) ≡ S → Read (right t) S
   empty-read at h t e S q = subst (λ (y : Numbers). Read (right y) S) (sym e) (q, (omega arith, omega arith, none-empty (at + 1)))
 
   abbrev closed : Numbers → Numbers
   closed t = record { right = t.right; count = t.count; first = t.first; second = t.second; third = t.third; fourth = t.fourth; next = t.next + 1 }
 
-  pub closed-read : (t : Numbers) → t.right ≡ true → t.next < length l → t.count ≤ maxArguments → RestEmpty t
-      → (S : Scan (List ℕ)) → took (numbersOf t) (drop (t.next + 1) l) ≡ S → Read (closed t) S
-  closed-read t e h k z S q = (ap (λ b. scanned l b (numbersOf t) (t.next + 1)) e ∙ q, (omega arith, k, z))
+  pub closed-read : (t : Numbers) → t.right ≡ true → t.next < length l → t.count ≤ max_arguments → RestEmpty t
+      → (S : Scan (List ℕ)) → took (numbers_of t) (drop (t.next + 1) l) ≡ S → Read (closed t) S
+  closed-read t e h k z S q = (ap (λ b. scanned l b (numbers_of t) (t.next + 1)) e ∙ q, (omega arith, k, z))
 
 -- an answer among n types
-answer-low : (a n : ℕ) → a ≤ n → unlessMissing (answer_of a) (below n) ≡ true
+answer-low : (a n : ℕ) → a ≤ n → unless_missing (answer_of a) (below n) ≡ true
 answer-low zero n h = refl
 answer-low (suc a) n h = lt-ltb a n (omega arith)
 
-answer-high : (a n : ℕ) → n < a → unlessMissing (answer_of a) (below n) ≡ false
+answer-high : (a n : ℕ) → n < a → unless_missing (answer_of a) (below n) ≡ false
 answer-high zero n h = absurd (omega arith)
 answer-high (suc a) n h = le-ltb a n (omega arith)
 
@@ -139,13 +139,13 @@ module _ (n : ℕ) (s : State) (l : List ℕ) where
   method xs o = record { state = s; args = xs; answer = o }
 
   checked : Method → Res Method
-  checked m = need (all (below n) m.args && unlessMissing m.answer (below n)) outOfRange λ _. ok m
+  checked m = need (all (below n) m.args && unless_missing m.answer (below n)) out_of_range λ _. ok m
 
   after-args : Scan (List ℕ) → Res Method
-  after-args r = try (whole (bindScan r λ xs q. bindScan (answer q) λ o p. took (method xs o) p)) checked
+  after-args r = try (whole (bind_scan r λ xs q. bind_scan (answer q) λ o p. took (method xs o) p)) checked
 
   after-answer : List ℕ → Scan (Option ℕ) → Res Method
-  after-answer xs r = try (whole (bindScan r λ o p. took (method xs o) p)) checked
+  after-answer xs r = try (whole (bind_scan r λ o p. took (method xs o) p)) checked
 
   signature-of : after-args (arguments l) ≡ signature n s l
   unfolding signature method checked after-args
@@ -173,30 +173,30 @@ module _ (n : ℕ) (s : State) (l : List ℕ) where
       signature-behind h = ap (λ z. try (whole (took (method xs (answer_of a)) z)) checked) (sym (from-here w k h)) ∙ both-taken
 
       module _ (h : length w ≤ k) where
-        complete : need (all (below n) xs && unlessMissing (answer_of a) (below n)) outOfRange (λ _. ok (method xs (answer_of a))) ≡ signature n s l
+        complete : need (all (below n) xs && unless_missing (answer_of a) (below n)) out_of_range (λ _. ok (method xs (answer_of a))) ≡ signature n s l
         unfolding checked method
         complete = ap (λ z. try (whole (took (method xs (answer_of a)) z)) checked) (sym (at-end w k h)) ∙ both-taken
 
-        pub signature-high : all (below n) xs ≡ false → refuse outOfRange ≡ signature n s l
-        signature-high b = ap (λ z. need (z && unlessMissing (answer_of a) (below n)) outOfRange (λ _. ok (method xs (answer_of a)))) (sym b) ∙ complete
+        pub signature-high : all (below n) xs ≡ false → refuse out_of_range ≡ signature n s l
+        signature-high b = ap (λ z. need (z && unless_missing (answer_of a) (below n)) out_of_range (λ _. ok (method xs (answer_of a)))) (sym b) ∙ complete
 
         module _ (b : all (below n) xs ≡ true) where
-          args-below : need (unlessMissing (answer_of a) (below n)) outOfRange (λ _. ok (method xs (answer_of a))) ≡ signature n s l
-          args-below = ap (λ z. need (z && unlessMissing (answer_of a) (below n)) outOfRange (λ _. ok (method xs (answer_of a)))) (sym b) ∙ complete
+          args-below : need (unless_missing (answer_of a) (below n)) out_of_range (λ _. ok (method xs (answer_of a))) ≡ signature n s l
+          args-below = ap (λ z. need (z && unless_missing (answer_of a) (below n)) out_of_range (λ _. ok (method xs (answer_of a)))) (sym b) ∙ complete
 
-          pub signature-answer-high : n < a → refuse outOfRange ≡ signature n s l
-          signature-answer-high d = ap (λ z. need z outOfRange (λ _. ok (method xs (answer_of a)))) (sym (answer-high a n d)) ∙ args-below
+          pub signature-answer-high : n < a → refuse out_of_range ≡ signature n s l
+          signature-answer-high d = ap (λ z. need z out_of_range (λ _. ok (method xs (answer_of a)))) (sym (answer-high a n d)) ∙ args-below
 
           pub signature-good : a ≤ n → ok (record { state = s; args = xs; answer = answer_of a }) ≡ signature n s l
           unfolding method
-          signature-good d = ap (λ z. need z outOfRange (λ _. ok (method xs (answer_of a)))) (sym (answer-low a n d)) ∙ args-below
+          signature-good d = ap (λ z. need z out_of_range (λ _. ok (method xs (answer_of a)))) (sym (answer-low a n d)) ∙ args-below
 
 -- What a method's bytes mean.
 means : State → Bool → ℕ → List ℕ → ℕ → Method
 means s b count args a = record { state = s; args = cond b (take count args) []; answer = cond b (answer_of a) none }
 
 pub signed-means : (s count answer a k : ℕ) (args xs : List ℕ) → permit (state_of s) ≡ true → count ≡ k → take k args ≡ xs → answer ≡ a
-    → methodOf (record { state = s; count = count; args = args; answer = answer }) ≡ record { state = state_of s; args = xs; answer = answer_of a }
+    → method_of (record { state = s; count = count; args = args; answer = answer }) ≡ record { state = state_of s; args = xs; answer = answer_of a }
 unfolding means
 signed-means s count answer a k args xs p e q f =
     ap (λ z. means (state_of s) z count args answer) p
@@ -204,7 +204,7 @@ signed-means s count answer a k args xs p e q f =
     ∙ ap (λ (z : List ℕ). let m : Method = record { state = state_of s; args = z; answer = answer_of answer } in m) q
     ∙ ap (λ (z : ℕ). let m : Method = record { state = state_of s; args = xs; answer = answer_of z } in m) f
 
-pub unsigned-means : (s count answer : ℕ) (args : List ℕ) → permit (state_of s) ≡ false → methodOf (record { state = s; count = count; args = args; answer = answer }) ≡ bare (state_of s)
+pub unsigned-means : (s count answer : ℕ) (args : List ℕ) → permit (state_of s) ≡ false → method_of (record { state = s; count = count; args = args; answer = answer }) ≡ bare (state_of s)
 unfolding means
 unsigned-means s count answer args p = ap (λ z. means (state_of s) z count args answer) p
 
@@ -218,51 +218,51 @@ permits-below (suc (suc (suc s))) p = never p
 -- An `m=` line, by its beginning.
 module _ (n : ℕ) (l : List ℕ) where
   after-avail : Res Method
-  after-avail = cond (starts (stateText optional) l) (signature n optional (drop 11 l)) (bareLine l)
+  after-avail = cond (starts (state_text optional) l) (signature n optional (drop 11 l)) (bare_line l)
 
-  pub method-avail : starts (stateText avail) l ≡ true → signature n avail (drop 8 l) ≡ methodLine n l
-  unfolding methodLine after-avail
+  pub method-avail : starts (state_text avail) l ≡ true → signature n avail (drop 8 l) ≡ method_line n l
+  unfolding method_line after-avail
   method-avail e = ap (λ z. cond z (signature n avail (drop 8 l)) after-avail) (sym e)
 
-  module _ (a : starts (stateText avail) l ≡ false) where
-    not-avail : after-avail ≡ methodLine n l
-    unfolding methodLine after-avail
+  module _ (a : starts (state_text avail) l ≡ false) where
+    not-avail : after-avail ≡ method_line n l
+    unfolding method_line after-avail
     not-avail = ap (λ z. cond z (signature n avail (drop 8 l)) after-avail) (sym a)
 
-    pub method-optional : starts (stateText optional) l ≡ true → signature n optional (drop 11 l) ≡ methodLine n l
+    pub method-optional : starts (state_text optional) l ≡ true → signature n optional (drop 11 l) ≡ method_line n l
     unfolding after-avail
-    method-optional e = ap (λ z. cond z (signature n optional (drop 11 l)) (bareLine l)) (sym e) ∙ not-avail
+    method-optional e = ap (λ z. cond z (signature n optional (drop 11 l)) (bare_line l)) (sym e) ∙ not-avail
 
-    pub method-bare : starts (stateText optional) l ≡ false → bareLine l ≡ methodLine n l
+    pub method-bare : starts (state_text optional) l ≡ false → bare_line l ≡ method_line n l
     unfolding after-avail
-    method-bare e = ap (λ z. cond z (signature n optional (drop 11 l)) (bareLine l)) (sym e) ∙ not-avail
+    method-bare e = ap (λ z. cond z (signature n optional (drop 11 l)) (bare_line l)) (sym e) ∙ not-avail
 
 -- by the case of its beginning
 pub signed-opens : (l : List ℕ) (o : Opening) (s at : ℕ) → o ≡ Signed s at → Opens l o
-    → (at ≤ length l) × (permit (state_of s) ≡ true) × ((n : ℕ) → signature n (state_of s) (drop at l) ≡ methodLine n l)
+    → (at ≤ length l) × (permit (state_of s) ≡ true) × ((n : ℕ) → signature n (state_of s) (drop at l) ≡ method_line n l)
 signed-opens l o s at e h = subst (Opens l) e h
 
-pub other-opens : (l : List ℕ) (o : Opening) → o ≡ Other → Opens l o → (n : ℕ) → bareLine l ≡ methodLine n l
+pub other-opens : (l : List ℕ) (o : Opening) → o ≡ Other → Opens l o → (n : ℕ) → bare_line l ≡ method_line n l
 other-opens l o e h = subst (Opens l) e h
 
 -- one without a signature
 module _ (l : List ℕ) where
   not-denied : Res Method
-  not-denied = cond (same (stateText unavail) l) (ok (bare unavail)) (refuse form)
+  not-denied = cond (same (state_text unavail) l) (ok (bare unavail)) (refuse form)
 
-  pub bare-denied : same (stateText denied) l ≡ true → ok (bare denied) ≡ bareLine l
+  pub bare-denied : same (state_text denied) l ≡ true → ok (bare denied) ≡ bare_line l
   unfolding not-denied
   bare-denied e = ap (λ z. cond z (ok (bare denied)) not-denied) (sym e)
 
-  module _ (d : same (stateText denied) l ≡ false) where
-    past-denied : not-denied ≡ bareLine l
+  module _ (d : same (state_text denied) l ≡ false) where
+    past-denied : not-denied ≡ bare_line l
     unfolding not-denied
     past-denied = ap (λ z. cond z (ok (bare denied)) not-denied) (sym d)
 
-    pub bare-unavail : same (stateText unavail) l ≡ true → ok (bare unavail) ≡ bareLine l
+    pub bare-unavail : same (state_text unavail) l ≡ true → ok (bare unavail) ≡ bare_line l
     unfolding not-denied
     bare-unavail e = ap (λ z. cond z (ok (bare unavail)) (refuse form)) (sym e) ∙ past-denied
 
-    pub bare-none : same (stateText unavail) l ≡ false → refuse form ≡ bareLine l
+    pub bare-none : same (state_text unavail) l ≡ false → refuse form ≡ bare_line l
     unfolding not-denied
     bare-none e = ap (λ z. cond z (ok (bare unavail)) (refuse form)) (sym e) ∙ past-denied

@@ -3,13 +3,13 @@
 // unused slots 0 (B13). The other lines are read by crate `sheet_read_line`.
 ghost use Rattle.std.specs.Prelude.{◌≡◌, true, false, ◌≤◌, ◌<◌, length, drop};
 ghost use Rattle.spec_model.specs.Basics.{refuse, ok};
-ghost use Rattle.spec_model.specs.Table.{bare, permit, maxSheetTypes};
-ghost use Rattle.spec_model.specs.Check.{state_of, answer_of, methodOf};
-ghost use Rattle.table_record.specs.Store.{rawMethod, MethodExact};
+ghost use Rattle.spec_model.specs.Table.{bare, permit, max_sheet_types};
+ghost use Rattle.spec_model.specs.Check.{state_of, answer_of, method_of};
+ghost use Rattle.table_record.specs.Store.{raw_method, MethodExact};
 ghost use Rattle.spec_sheet.specs.Lines.{split, line};
-ghost use Rattle.spec_sheet.specs.Sheet.{arguments, answer, signature, methodLine};
-ghost use Rattle.text_read.specs.View.{scanned, scanBy, result, reading, numbersOf};
-ghost use Rattle.sheet_read_method.specs.View.{ArgsWithin, bareLine, Opens};
+ghost use Rattle.spec_sheet.specs.Sheet.{arguments, answer, signature, method_line};
+ghost use Rattle.text_read.specs.View.{scanned, scan_by, result, reading, numbers_of};
+ghost use Rattle.sheet_read_method.specs.View.{ArgsWithin, bare_line, Opens};
 
 use base_numbers::{narrow, refusal};
 use sheet_read_line::all_below;
@@ -42,7 +42,7 @@ pub struct MethodGot {
 // The arguments of a signature, to the bracket that closes them (S26). One too many is a fault of form (S11).
 fn args_at(l: &[u8], at: usize) -> Numbers
     requires { at ≤ length l.now }
-    ensures* is { λ r. ⌜ scanned l.now r.right (numbersOf r) r.next ≡ arguments (drop at l.now) ⌝ }
+    ensures* is { λ r. ⌜ scanned l.now r.right (numbers_of r) r.next ≡ arguments (drop at l.now) ⌝ }
     ensures* within { λ r. ⌜ ArgsWithin (length l.now) r ⌝ }
 {
     if at == l.len() {
@@ -71,7 +71,7 @@ fn args_at(l: &[u8], at: usize) -> Numbers
 // The answer of a signature: 0 for `-`, else the number plus 1 (B10).
 fn answer_at(l: &[u8], at: usize) -> Number
     requires { at ≤ length l.now }
-    ensures* { λ r. ⌜ scanBy answer_of l.now r ≡ answer (drop at l.now) ⌝ }
+    ensures* { λ r. ⌜ scan_by answer_of l.now r ≡ answer (drop at l.now) ⌝ }
 {
     if at == l.len() {
         return Number::Wrong;
@@ -88,8 +88,8 @@ fn answer_at(l: &[u8], at: usize) -> Number
 
 fn no_method(refusal: usize) -> MethodLine
     requires { 0 < refusal }
-    ensures* is { λ r. ⌜ result r.refusal (methodOf (rawMethod r.m)) ≡ refuse refusal ⌝ }
-    ensures* exact { λ r. ⌜ MethodExact (rawMethod r.m) ⌝ }
+    ensures* is { λ r. ⌜ result r.refusal (method_of (raw_method r.m)) ≡ refuse refusal ⌝ }
+    ensures* exact { λ r. ⌜ MethodExact (raw_method r.m) ⌝ }
 {
     let m = Method::empty();
     MethodLine { refusal, m }
@@ -98,8 +98,8 @@ fn no_method(refusal: usize) -> MethodLine
 // A method without a signature.
 fn read_unsigned(state: u8) -> MethodLine
     requires { (permit (state_of state) ≡ false) × (state < 4) }
-    ensures* is { λ r. ⌜ result r.refusal (methodOf (rawMethod r.m)) ≡ ok (bare (state_of state)) ⌝ }
-    ensures* exact { λ r. ⌜ MethodExact (rawMethod r.m) ⌝ }
+    ensures* is { λ r. ⌜ result r.refusal (method_of (raw_method r.m)) ≡ ok (bare (state_of state)) ⌝ }
+    ensures* exact { λ r. ⌜ MethodExact (raw_method r.m) ⌝ }
 {
     let m = Method {
         state,
@@ -112,9 +112,9 @@ fn read_unsigned(state: u8) -> MethodLine
 
 // A signature, from `at` on, of a sheet with n types (S26): a number that isn't below n is 2 (S29).
 fn read_signature(l: &[u8], at: usize, state: u8, n: usize) -> MethodLine
-    requires { (at ≤ length l.now) × (n ≤ maxSheetTypes) × (permit (state_of state) ≡ true) }
-    ensures* is { λ r. ⌜ result r.refusal (methodOf (rawMethod r.m)) ≡ signature n (state_of state) (drop at l.now) ⌝ }
-    ensures* exact { λ r. ⌜ MethodExact (rawMethod r.m) ⌝ }
+    requires { (at ≤ length l.now) × (n ≤ max_sheet_types) × (permit (state_of state) ≡ true) }
+    ensures* is { λ r. ⌜ result r.refusal (method_of (raw_method r.m)) ≡ signature n (state_of state) (drop at l.now) ⌝ }
+    ensures* exact { λ r. ⌜ MethodExact (raw_method r.m) ⌝ }
 {
     let t = args_at(l, at);
     if !t.right {
@@ -162,8 +162,8 @@ fn opened(l: &[u8]) -> Opening
 
 // An `m=` line without a signature.
 fn read_bare(l: &[u8]) -> MethodLine
-    ensures* is { λ r. ⌜ result r.refusal (methodOf (rawMethod r.m)) ≡ bareLine l.now ⌝ }
-    ensures* exact { λ r. ⌜ MethodExact (rawMethod r.m) ⌝ }
+    ensures* is { λ r. ⌜ result r.refusal (method_of (raw_method r.m)) ≡ bare_line l.now ⌝ }
+    ensures* exact { λ r. ⌜ MethodExact (raw_method r.m) ⌝ }
 {
     if text_read::is_word(l, b"m=denied") {
         return read_unsigned(Method::DENIED);
@@ -176,9 +176,9 @@ fn read_bare(l: &[u8]) -> MethodLine
 
 // An `m=` line of a sheet with n types (S26).
 fn read_method(l: &[u8], n: usize) -> MethodLine
-    requires { n ≤ maxSheetTypes }
-    ensures* is { λ r. ⌜ result r.refusal (methodOf (rawMethod r.m)) ≡ methodLine n l.now ⌝ }
-    ensures* exact { λ r. ⌜ MethodExact (rawMethod r.m) ⌝ }
+    requires { n ≤ max_sheet_types }
+    ensures* is { λ r. ⌜ result r.refusal (method_of (raw_method r.m)) ≡ method_line n l.now ⌝ }
+    ensures* exact { λ r. ⌜ MethodExact (raw_method r.m) ⌝ }
 {
     let o = opened(l);
     match o {
@@ -188,10 +188,10 @@ fn read_method(l: &[u8], n: usize) -> MethodLine
 }
 
 pub fn next_method(s: &[u8], c: Cursor, n: usize) -> MethodGot
-    requires { n ≤ maxSheetTypes }
-    ensures* is { λ r. ⌜ reading s.now r.refusal (methodOf (rawMethod r.m)) r.next.at
-        ≡ line (methodLine n) c.at (split (drop c.at s.now)) ⌝ }
-    ensures* exact { λ r. ⌜ MethodExact (rawMethod r.m) ⌝ }
+    requires { n ≤ max_sheet_types }
+    ensures* is { λ r. ⌜ reading s.now r.refusal (method_of (raw_method r.m)) r.next.at
+        ≡ line (method_line n) c.at (split (drop c.at s.now)) ⌝ }
+    ensures* exact { λ r. ⌜ MethodExact (raw_method r.m) ⌝ }
 {
     let d = next_line(s, c);
     let l = between(s, c, d);

@@ -1,19 +1,19 @@
 // Whether every type that stands in a signature may stand there (T14), over the bytes of the types: the last test of a sheet (S13).
 ghost use Rattle.std.specs.Prelude.{◌≡◌, ◌≤◌, ◌<◌, get_or, take};
 ghost use Rattle.spec_model.specs.Basics.{all};
-ghost use Rattle.spec_model.specs.Check.{noRawType, methodOf};
-ghost use Rattle.spec_model.specs.Table.{maxMethods, maxTypes};
-ghost use Rattle.table_record.specs.Store.{rawMethod, types_in, typesTo};
+ghost use Rattle.spec_model.specs.Check.{no_raw_type, method_of};
+ghost use Rattle.spec_model.specs.Table.{max_methods, max_types};
+ghost use Rattle.table_record.specs.Store.{raw_method, types_in, types_to};
 ghost use Rattle.spec_sheet.specs.Sheet.{stands};
-ghost use Rattle.sheet_read_signatures.specs.Signatures.{methodsOf, standsAt, methodsStand, typeStands};
+ghost use Rattle.sheet_read_signatures.specs.Signatures.{methods_of, stands_at, methods_stand, type_stands};
 
 use base_numbers::wide;
 use table_record::{Head, Method, TYPE_BYTES};
 
 // Whether type a, if it is one of n, may stand in a signature.
 fn stands_at(b: &[u8; TYPE_BYTES], n: usize, a: usize) -> bool
-    requires { n ≤ maxTypes }
-    ensures { result ≡ standsAt (types_in b.now) n a }
+    requires { n ≤ max_types }
+    ensures { result ≡ stands_at (types_in b.now) n a }
 {
     if n <= a {
         return true;
@@ -23,8 +23,8 @@ fn stands_at(b: &[u8; TYPE_BYTES], n: usize, a: usize) -> bool
 
 // Whether every argument of a signature may stand there.
 fn args_stand(b: &[u8; TYPE_BYTES], n: usize, m: Method) -> bool
-    requires { n ≤ maxTypes }
-    ensures { result ≡ all (standsAt (types_in b.now) n) (take m.count m.args) }
+    requires { n ≤ max_types }
+    ensures { result ≡ all (stands_at (types_in b.now) n) (take m.count m.args) }
 {
     let count = wide(m.count);
     let mut i: usize = 0;
@@ -43,8 +43,8 @@ fn args_stand(b: &[u8; TYPE_BYTES], n: usize, m: Method) -> bool
 
 // Whether every type of a method's signature may stand there (T14).
 fn method_stands(b: &[u8; TYPE_BYTES], n: usize, m: Method) -> bool
-    requires { n ≤ maxTypes }
-    ensures { result ≡ stands (standsAt (types_in b.now) n) (methodOf (rawMethod m)) }
+    requires { n ≤ max_types }
+    ensures { result ≡ stands (stands_at (types_in b.now) n) (method_of (raw_method m)) }
 {
     if !table_record::permits(m.state) {
         return true;
@@ -61,8 +61,8 @@ fn method_stands(b: &[u8; TYPE_BYTES], n: usize, m: Method) -> bool
 
 // whether the signatures of type i do, of m methods
 fn type_stands(b: &[u8; TYPE_BYTES], n: usize, m: usize, i: usize) -> bool
-    requires { (n ≤ maxTypes) × (m ≤ maxMethods) × (i < maxTypes) }
-    ensures { result ≡ methodsStand (standsAt (types_in b.now) n) (methodsOf m (get_or (types_in b.now) i noRawType)) }
+    requires { (n ≤ max_types) × (m ≤ max_methods) × (i < max_types) }
+    ensures { result ≡ methods_stand (stands_at (types_in b.now) n) (methods_of m (get_or (types_in b.now) i no_raw_type)) }
 {
     let h = table_record::get_head(b, i);
     if h.rep != Head::REF {
@@ -81,8 +81,8 @@ fn type_stands(b: &[u8; TYPE_BYTES], n: usize, m: usize, i: usize) -> bool
 
 // whether those of the n types do
 pub fn types_stand(b: &[u8; TYPE_BYTES], n: usize, m: usize) -> bool
-    requires { (n ≤ maxTypes) × (m ≤ maxMethods) }
-    ensures { result ≡ all (typeStands (types_in b.now) n) (typesTo m n n (types_in b.now)) }
+    requires { (n ≤ max_types) × (m ≤ max_methods) }
+    ensures { result ≡ all (type_stands (types_in b.now) n) (types_to m n n (types_in b.now)) }
 {
     let mut i: usize = 0;
     while i < n {

@@ -7,14 +7,14 @@ use native.Mathlib.Omega.{arith}
 use lib.ListN.{drop}
 use borrow.Author.Tests.{eq-eqb, ne_eqb}
 use Rattle.spec_model.specs.Table.{ref, Ty, Rep, Method}
-use Rattle.spec_model.specs.Check.{repOf}
+use Rattle.spec_model.specs.Check.{rep_of}
 use Rattle.spec_sheet.specs.Lines.{bytes, Row, split, Reading, refused, got, Reader, pure, line, follow, bind, times}
-use Rattle.spec_sheet.specs.Sheet.{numberLine, repLine, ownLine, sheetType, members, oneType}
+use Rattle.spec_sheet.specs.Sheet.{number_line, rep_line, own_line, sheet_type, members, one_type}
 use Rattle.text_read.specs.View.{reading, read_by, GotAtMost}
 use Rattle.text_cursor.specs.declared.Cursor.{Cursor}
 use Rattle.text_read.specs.declared.Got.{Got}
 use Rattle.text_read.specs.declared.Got.TheVariants.{Refused, At}
-use Rattle.sheet_read_type.specs.View.{eachMethod, membersRead}
+use Rattle.sheet_read_type.specs.View.{each_method, members_read}
 
 -- What a reading's number says.
 module _ {A : Type 0} (s : List ℕ) (nr : ℕ) (x : A) (at : ℕ) (R : Reading A) (is : reading s nr x at ≡ R) where
@@ -71,31 +71,31 @@ module _ {A : Type 0} (p : ℕ → Reader A) (n j i : ℕ) (acc : List A) (at : 
         ∙ ap (λ z. follow z (λ x. times p (n - (j + 1)) (suc i) (acc ++ x ∷ []))) e ∙ one_more
 
 -- A type's lines, and those of a reference type.
-abbrev pub afterRep : ℕ → ℕ → ℕ → Rep → Reader Ty
-afterRep m c n r = bind (line (numberLine (bytes "cat=") 0 c)) (members m n r)
+abbrev pub after_rep : ℕ → ℕ → ℕ → Rep → Reader Ty
+after_rep m c n r = bind (line (number_line (bytes "cat=") 0 c)) (members m n r)
 
-abbrev pub afterNumber : ℕ → ℕ → ℕ → ℕ → Reader Ty
-afterNumber m c n x = bind (line repLine) (afterRep m c n)
+abbrev pub after_number : ℕ → ℕ → ℕ → ℕ → Reader Ty
+after_number m c n x = bind (line rep_line) (after_rep m c n)
 
-pub type-of : (m c n i at : ℕ) (rs : List Row) → follow (line (numberLine (bytes "type=") i i) at rs) (afterNumber m c n) ≡ oneType m c n i at rs
-unfolding oneType
+pub type-of : (m c n i at : ℕ) (rs : List Row) → follow (line (number_line (bytes "type=") i i) at rs) (after_number m c n) ≡ one_type m c n i at rs
+unfolding one_type
 type-of m c n i at rs = refl
 
-abbrev pub afterMethods : ℕ → Bool → List Method → Reader Ty
-afterMethods c o ms = pure (sheetType ref c o ms)
+abbrev pub after_methods : ℕ → Bool → List Method → Reader Ty
+after_methods c o ms = pure (sheet_type ref c o ms)
 
-abbrev pub afterOwn : ℕ → ℕ → ℕ → Bool → Reader Ty
-afterOwn m n c o = bind (times (eachMethod n) m 0 []) (afterMethods c o)
+abbrev pub after_own : ℕ → ℕ → ℕ → Bool → Reader Ty
+after_own m n c o = bind (times (each_method n) m 0 []) (after_methods c o)
 
-pub members-of : (m n c at : ℕ) (rs : List Row) → follow (line ownLine at rs) (afterOwn m n c) ≡ membersRead m n c at rs
-unfolding membersRead
+pub members-of : (m n c at : ℕ) (rs : List Row) → follow (line own_line at rs) (after_own m n c) ≡ members_read m n c at rs
+unfolding members_read
 members-of m n c at rs = refl
 
-pub members-ref : (m n r c at : ℕ) (rs : List Row) → r ≡ 0 → membersRead m n c at rs ≡ members m n (repOf r) c at rs
-unfolding membersRead members
-members-ref m n r c at rs e = ap (λ (z : ℕ). members m n (repOf z) c at rs) (sym e)
+pub members-ref : (m n r c at : ℕ) (rs : List Row) → r ≡ 0 → members_read m n c at rs ≡ members m n (rep_of r) c at rs
+unfolding members_read members
+members-ref m n r c at rs e = ap (λ (z : ℕ). members m n (rep_of z) c at rs) (sym e)
 
-pub members-number : (m n r c at : ℕ) (rs : List Row) → (r ≡ 0 → ⊥) → got (sheetType (repOf r) c false []) at rs ≡ members m n (repOf r) c at rs
+pub members-number : (m n r c at : ℕ) (rs : List Row) → (r ≡ 0 → ⊥) → got (sheet_type (rep_of r) c false []) at rs ≡ members m n (rep_of r) c at rs
 unfolding members
 members-number m n zero c at rs h = absurd (h refl)
 members-number m n (suc zero) c at rs h = refl

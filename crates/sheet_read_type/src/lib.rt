@@ -1,14 +1,14 @@
 // The types of a sheet (docs/SPEC.md S25): the lines of each are read as the record of the type, and it is stored in lent bytes by crate `table_store`.
-// What comes of the lines is crate `spec_sheet`'s definition `oneType`. One line is read by `text_read`, `sheet_read_line` or `sheet_read_method`.
+// What comes of the lines is crate `spec_sheet`'s definition `one_type`. One line is read by `text_read`, `sheet_read_line` or `sheet_read_method`.
 ghost use Rattle.std.specs.Prelude.{◌≡◌, false, [], map, ℕ, ◌≤◌, ◌<◌, length, take, drop};
-ghost use Rattle.spec_model.specs.Table.{maxMethods, maxCategories, maxSheetTypes};
-ghost use Rattle.spec_model.specs.Check.{repOf, type_of};
-ghost use Rattle.table_record.specs.Store.{types_in, rawOf, typesTo, emptyTypes, TypeExact};
+ghost use Rattle.spec_model.specs.Table.{max_methods, max_categories, max_sheet_types};
+ghost use Rattle.spec_model.specs.Check.{rep_of, type_of};
+ghost use Rattle.table_record.specs.Store.{types_in, raw_of, types_to, empty_types, TypeExact};
 ghost use Rattle.table_record.specs.Records.{type_bytes};
 ghost use Rattle.spec_sheet.specs.Lines.{split, times};
-ghost use Rattle.spec_sheet.specs.Sheet.{sheetType, oneType};
+ghost use Rattle.spec_sheet.specs.Sheet.{sheet_type, one_type};
 ghost use Rattle.text_read.specs.View.{reading};
-ghost use Rattle.sheet_read_type.specs.View.{doneBy, OnDone, methodIs, MethodsExact, eachMethod, membersRead};
+ghost use Rattle.sheet_read_type.specs.View.{done_by, OnDone, method_is, MethodsExact, each_method, members_read};
 
 use base_numbers::narrow;
 use table_record::{Counts, Head, Method, TYPE_BYTES, TypeRec};
@@ -40,10 +40,10 @@ pub struct TypeGot {
 
 // The `m=` lines of a type: m of them, of a sheet with n types.
 fn methods_at(s: &[u8], c: Cursor, m: usize, n: usize) -> MethodsGot
-    requires { (m ≤ maxMethods) × (n ≤ maxSheetTypes) }
-    ensures is { reading s.now result.refusal (map methodIs (take m result.list)) result.next.at
-        ≡ times (eachMethod n) m 0 [] c.at (split (drop c.at s.now)) }
-    ensures exact { (result.refusal ≡ 0 → MethodsExact m result.list) × (length result.list ≡ maxMethods) }
+    requires { (m ≤ max_methods) × (n ≤ max_sheet_types) }
+    ensures is { reading s.now result.refusal (map method_is (take m result.list)) result.next.at
+        ≡ times (each_method n) m 0 [] c.at (split (drop c.at s.now)) }
+    ensures exact { (result.refusal ≡ 0 → MethodsExact m result.list) × (length result.list ≡ max_methods) }
 {
     let none = Method::empty();
     let mut list = [none; Counts::METHODS];
@@ -81,8 +81,8 @@ fn no_type(refusal: usize, next: Cursor) -> TypeGot
 
 // The head of a sheet type: kind, left and right are 0 (B14).
 fn sheet_head(rep: usize, cat: usize, own: usize) -> Head
-    requires { (rep ≤ 2) × (cat ≤ maxCategories) × (own ≤ 1) }
-    ensures { result ≡ record { rep = rep; cat = cat; own_val = own; kind = 0; left = 0; right = 0 } }
+    requires { (rep ≤ 2) × (cat ≤ max_categories) × (own ≤ 1) }
+    ensures { result ≡ record { rep = rep; cat = cat; own = own; kind = 0; left = 0; right = 0 } }
 {
     Head {
         rep: narrow(rep),
@@ -96,9 +96,9 @@ fn sheet_head(rep: usize, cat: usize, own: usize) -> Head
 
 // A number type: neither own nor methods (B15).
 fn number_type(rep: usize, cat: usize) -> TypeRec
-    requires { (0 < rep) × (rep ≤ 2) × (cat ≤ maxCategories) }
-    ensures is { (m n i : ℕ) → i < n → type_of m n i (rawOf result) ≡ sheetType (repOf rep) cat false [] }
-    ensures exact { (m n i : ℕ) → i < n → TypeExact m n i (rawOf result) }
+    requires { (0 < rep) × (rep ≤ 2) × (cat ≤ max_categories) }
+    ensures is { (m n i : ℕ) → i < n → type_of m n i (raw_of result) ≡ sheet_type (rep_of rep) cat false [] }
+    ensures exact { (m n i : ℕ) → i < n → TypeExact m n i (raw_of result) }
 {
     let none = Method::empty();
     let methods = [none; Counts::METHODS];
@@ -108,11 +108,11 @@ fn number_type(rep: usize, cat: usize) -> TypeRec
 
 // What a reference type has behind its `cat=` line (S25): m methods, of a sheet with n types.
 fn ref_type(s: &[u8], c: Cursor, cat: usize, m: usize, n: usize) -> TypeGot
-    requires { (cat ≤ maxCategories) × (m ≤ maxMethods) × (n ≤ maxSheetTypes) }
+    requires { (cat ≤ max_categories) × (m ≤ max_methods) × (n ≤ max_sheet_types) }
     ensures is { (i : ℕ) → i < n
-        → reading s.now result.refusal (type_of m n i (rawOf result.t)) result.next.at
-        ≡ membersRead m n cat c.at (split (drop c.at s.now)) }
-    ensures exact { (i : ℕ) → i < n → result.refusal ≡ 0 → TypeExact m n i (rawOf result.t) }
+        → reading s.now result.refusal (type_of m n i (raw_of result.t)) result.next.at
+        ≡ members_read m n cat c.at (split (drop c.at s.now)) }
+    ensures exact { (i : ℕ) → i < n → result.refusal ≡ 0 → TypeExact m n i (raw_of result.t) }
 {
     let o = sheet_read_line::next_own(s, c);
     match o {
@@ -137,10 +137,10 @@ fn ref_type(s: &[u8], c: Cursor, cat: usize, m: usize, n: usize) -> TypeGot
 
 // The block of type i of n (S25). A number out of turn is 2 (S30).
 fn one_type(s: &[u8], c: Cursor, i: usize, m: usize, cats: usize, n: usize) -> TypeGot
-    requires { (i < n) × (n ≤ maxSheetTypes) × (m ≤ maxMethods) × (cats ≤ maxCategories) }
-    ensures is { reading s.now result.refusal (type_of m n i (rawOf result.t)) result.next.at
-        ≡ oneType m cats n i c.at (split (drop c.at s.now)) }
-    ensures exact { result.refusal ≡ 0 → TypeExact m n i (rawOf result.t) }
+    requires { (i < n) × (n ≤ max_sheet_types) × (m ≤ max_methods) × (cats ≤ max_categories) }
+    ensures is { reading s.now result.refusal (type_of m n i (raw_of result.t)) result.next.at
+        ≡ one_type m cats n i c.at (split (drop c.at s.now)) }
+    ensures exact { result.refusal ≡ 0 → TypeExact m n i (raw_of result.t) }
 {
     let x = text_read::next_number(s, c, b"type=", i, i);
     let a = match x {
@@ -181,10 +181,10 @@ pub fn types_into(
     n: usize,
     b: &mut [u8; TYPE_BYTES],
 ) -> Done
-    requires { (m ≤ maxMethods) × (cats ≤ maxCategories) × (n ≤ maxSheetTypes) × (b.old ≡ emptyTypes) }
-    ensures is { doneBy s.now (typesTo m n n (types_in b.new)) result
-        ≡ times (oneType m cats n) n 0 [] c.at (split (drop c.at s.now)) }
-    ensures exact { OnDone result (b.new ≡ type_bytes (typesTo m n n (types_in b.new))) }
+    requires { (m ≤ max_methods) × (cats ≤ max_categories) × (n ≤ max_sheet_types) × (b.old ≡ empty_types) }
+    ensures is { done_by s.now (types_to m n n (types_in b.new)) result
+        ≡ times (one_type m cats n) n 0 [] c.at (split (drop c.at s.now)) }
+    ensures exact { OnDone result (b.new ≡ type_bytes (types_to m n n (types_in b.new))) }
 {
     let mut i: usize = 0;
     let mut at = c.at;

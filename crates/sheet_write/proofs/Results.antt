@@ -3,18 +3,18 @@ use mathlib.Core.Path.{◌≡◌}
 use mathlib.Core.Bool.{true, false}
 use mathlib.Core.List.{List}
 use Prim.Native.Nat.{ℕ}
-use Rattle.spec_model.specs.Refusals.{outOfRange}
-use Rattle.spec_model.specs.Check.{RawTable, table_of, tableAccepted}
-use Rattle.spec_sheet.specs.Text.{text, writeText, write}
+use Rattle.spec_model.specs.Refusals.{out_of_range}
+use Rattle.spec_model.specs.Check.{RawTable, table_of, table_accepted}
+use Rattle.spec_sheet.specs.Text.{text, write_text, write}
 use Rattle.text_write.specs.declared.Wrote.TheVariants.{Refused}
 use Rattle.text_write.specs.Written.{written_of}
 
 -- what is left to write is the sheet's text (W2 to W4)
-pub fit_is : (r : RawTable) (buf : List ℕ) → tableAccepted r ≡ true → writeText (text (table_of r)) buf ≡ write r buf
+pub fit_is : (r : RawTable) (buf : List ℕ) → table_accepted r ≡ true → write_text (text (table_of r)) buf ≡ write r buf
 unfolding write
 fit_is r buf h = rw h
 
 -- an unfit table (W1, W3)
-pub unfit-is : (r : RawTable) (buf : List ℕ) → tableAccepted r ≡ false → written_of (Refused outOfRange) buf ≡ write r buf
+pub unfit-is : (r : RawTable) (buf : List ℕ) → table_accepted r ≡ false → written_of (Refused out_of_range) buf ≡ write r buf
 unfolding write
 unfit-is r buf h = rw h

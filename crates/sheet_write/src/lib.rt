@@ -1,8 +1,8 @@
 // Sheet write (W) on any table and buffer. The same writer (crate `sheet_write_table`) counts first, on an empty part of the buffer, so that a short buffer
 // stays as it is.
 ghost use Rattle.std.specs.Prelude.{◌≡◌, true};
-ghost use Rattle.spec_model.specs.Check.{tableAccepted};
-ghost use Rattle.table_record.specs.Store.{rawTable};
+ghost use Rattle.spec_model.specs.Check.{table_accepted};
+ghost use Rattle.table_record.specs.Store.{raw_table};
 ghost use Rattle.spec_sheet.specs.Text.{write};
 ghost use Rattle.text_write.specs.Written.{written_of};
 
@@ -12,8 +12,8 @@ use text_write::Wrote;
 
 // Sheet write of a table that passed the check of 2: 4 (W2), or the text and its length (W4).
 fn write_checked(buf: &mut [u8], b: &[u8; TYPE_BYTES], l: &[u8; LINK_BYTES], c: Counts) -> Wrote
-    requires { tableAccepted (rawTable b.now l.now c) ≡ true }
-    ensures { written_of result buf.new ≡ write (rawTable b.now l.now c) buf.old }
+    requires { table_accepted (raw_table b.now l.now c) ≡ true }
+    ensures { written_of result buf.new ≡ write (raw_table b.now l.now c) buf.old }
 {
     let need = sheet_write_table::put_sheet(&mut buf[..0], b, l, c);
     if buf.len() < need {
@@ -24,7 +24,7 @@ fn write_checked(buf: &mut [u8], b: &[u8; TYPE_BYTES], l: &[u8; LINK_BYTES], c: 
 
 // Sheet write of any table handed in: 2 before all else (W1).
 pub fn write_sheet(buf: &mut [u8], b: &[u8; TYPE_BYTES], l: &[u8; LINK_BYTES], c: Counts) -> Wrote
-    ensures { written_of result buf.new ≡ write (rawTable b.now l.now c) buf.old }
+    ensures { written_of result buf.new ≡ write (raw_table b.now l.now c) buf.old }
 {
     if table_check::table_fits(b, l, c) {
         return write_checked(buf, b, l, c);

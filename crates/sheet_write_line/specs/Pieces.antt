@@ -5,21 +5,21 @@ use Rattle.spec_model.specs.Check.{answer_of}
 use Rattle.table_record.specs.declared.Links.{Links}
 use Rattle.spec_sheet.specs.Lines.{bytes, join}
 use Rattle.spec_sheet.specs.Numbers.{decimal, commas}
-use Rattle.spec_sheet.specs.Text.{numberText, answerText}
+use Rattle.spec_sheet.specs.Text.{number_text, answer_text}
 
 -- argument i of a signature: a comma before every one but the first
-abbrev pub argumentText : ℕ → ℕ → List ℕ
-argumentText zero n = decimal n
-argumentText (suc i) n = numberText (bytes ",") n
+abbrev pub argument_text : ℕ → ℕ → List ℕ
+argument_text zero n = decimal n
+argument_text (suc i) n = number_text (bytes ",") n
 
 -- the end of the line of a signature, from the bracket on
-abbrev pub closingText : ℕ → List ℕ
-closingText answer = code ")" ∷ (answerText (answer_of answer) ++ code "\n" ∷ [])
+abbrev pub closing_text : ℕ → List ℕ
+closing_text answer = code ")" ∷ (answer_text (answer_of answer) ++ code "\n" ∷ [])
 
 -- the line of a permitted method (S26): the key up to the bracket, `count` of the arguments, and the answer's code
-abbrev pub signedText : List ℕ → ℕ → List ℕ → ℕ → List ℕ
-signedText key count args answer = key ++ (commas (take count args) ++ code ")" ∷ answerText (answer_of answer))
+abbrev pub signed_text : List ℕ → ℕ → List ℕ → ℕ → List ℕ
+signed_text key count args answer = key ++ (commas (take count args) ++ code ")" ∷ answer_text (answer_of answer))
 
 -- the rest of an `under=` line behind its first number: the second, where there is one, and LF
-abbrev pub secondText : Links → List ℕ
-secondText x = cond (eqb x.count 2) (join (numberText (bytes ",") x.second ∷ [])) (code "\n" ∷ [])
+abbrev pub second_text : Links → List ℕ
+second_text x = cond (eqb x.count 2) (join (number_text (bytes ",") x.second ∷ [])) (code "\n" ∷ [])

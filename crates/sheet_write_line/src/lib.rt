@@ -1,12 +1,12 @@
 // Each kind of line of a sheet (S24 to S26) that is more than a key and a number, written in front of a lent buffer. Inside a line too the rest of
 // the buffer, from the end of what is written, is lent on to the next writer. Every code has a line, so that nothing is asked of the bytes.
 ghost use Rattle.std.specs.Prelude.{[], ◌∷◌, ◌≤◌, eqb, length, take};
-ghost use Rattle.spec_model.specs.Check.{repOf, answer_of, methodOf, linksOf};
-ghost use Rattle.table_record.specs.Store.{rawMethod, rawLinks};
+ghost use Rattle.spec_model.specs.Check.{rep_of, answer_of, method_of, links_of};
+ghost use Rattle.table_record.specs.Store.{raw_method, raw_links};
 ghost use Rattle.spec_sheet.specs.Numbers.{commas};
-ghost use Rattle.spec_sheet.specs.Text.{underText, repText, ownText, answerText, methodText};
+ghost use Rattle.spec_sheet.specs.Text.{under_text, rep_text, own_text, answer_text, method_text};
 ghost use Rattle.text_write.specs.Fill.{Filled, Lined};
-ghost use Rattle.sheet_write_line.specs.Pieces.{argumentText, closingText, signedText, secondText};
+ghost use Rattle.sheet_write_line.specs.Pieces.{argument_text, closing_text, signed_text, second_text};
 
 use base_numbers::{least, wide};
 use table_record::{Head, Links, Method};
@@ -14,7 +14,7 @@ use text_write::{put_byte, put_bytes, put_decimal, put_number, write_number, wri
 
 // Argument i of a signature.
 fn put_argument(buf: &mut [u8], i: usize, n: usize) -> usize
-    ensures is { Filled buf.old buf.new (argumentText i n) result }
+    ensures is { Filled buf.old buf.new (argument_text i n) result }
     ensures few { result ≤ 36 }
 {
     if i == 0 {
@@ -43,7 +43,7 @@ fn put_arguments(buf: &mut [u8], count: usize, args: [u8; Method::SLOTS]) -> usi
 
 // The answer of a signature, `-` for none (S26).
 fn put_answer(buf: &mut [u8], answer: u8) -> usize
-    ensures is { Filled buf.old buf.new (answerText (answer_of answer)) result }
+    ensures is { Filled buf.old buf.new (answer_text (answer_of answer)) result }
     ensures few { result ≤ 20 }
 {
     if answer == 0 {
@@ -55,7 +55,7 @@ fn put_answer(buf: &mut [u8], answer: u8) -> usize
 
 // The end of a signature: the bracket, the answer, and the end of the line.
 fn put_closing(buf: &mut [u8], answer: u8) -> usize
-    ensures is { Filled buf.old buf.new (closingText answer) result }
+    ensures is { Filled buf.old buf.new (closing_text answer) result }
     ensures few { result ≤ 22 }
 {
     let a = put_byte(buf, 41);
@@ -70,7 +70,7 @@ fn put_closing(buf: &mut [u8], answer: u8) -> usize
 // The line of a permitted method, whose key ends in the bracket (S26).
 fn write_signed(buf: &mut [u8], key: &[u8], m: Method) -> usize
     requires { length key.now ≤ 16 }
-    ensures is { Lined buf.old buf.new (signedText key.now m.count m.args m.answer ∷ []) result }
+    ensures is { Lined buf.old buf.new (signed_text key.now m.count m.args m.answer ∷ []) result }
     ensures few { result ≤ 182 }
 {
     let args = m.args;
@@ -85,7 +85,7 @@ fn write_signed(buf: &mut [u8], key: &[u8], m: Method) -> usize
 
 // The line of a method (S26).
 pub fn write_method(buf: &mut [u8], m: Method) -> usize
-    ensures is { Lined buf.old buf.new (methodText (methodOf (rawMethod m)) ∷ []) result }
+    ensures is { Lined buf.old buf.new (method_text (method_of (raw_method m)) ∷ []) result }
     ensures few { result ≤ 182 }
 {
     let state = m.state;
@@ -103,7 +103,7 @@ pub fn write_method(buf: &mut [u8], m: Method) -> usize
 
 // The line of a representation (S25).
 pub fn write_rep(buf: &mut [u8], rep: u8) -> usize
-    ensures is { Lined buf.old buf.new (repText (repOf rep) ∷ []) result }
+    ensures is { Lined buf.old buf.new (rep_text (rep_of rep) ∷ []) result }
     ensures few { result ≤ 17 }
 {
     if rep == Head::REF {
@@ -117,7 +117,7 @@ pub fn write_rep(buf: &mut [u8], rep: u8) -> usize
 
 // The line of the own flag (S25).
 pub fn write_own(buf: &mut [u8], own: u8) -> usize
-    ensures is { Lined buf.old buf.new (ownText (eqb own 1) ∷ []) result }
+    ensures is { Lined buf.old buf.new (own_text (eqb own 1) ∷ []) result }
     ensures few { result ≤ 17 }
 {
     if own == Head::OWN {
@@ -128,7 +128,7 @@ pub fn write_own(buf: &mut [u8], own: u8) -> usize
 
 // What follows the first number of an `under=` line: the second, where there is one, and the end of the line.
 fn put_second(buf: &mut [u8], x: Links) -> usize
-    ensures is { Filled buf.old buf.new (secondText x) result }
+    ensures is { Filled buf.old buf.new (second_text x) result }
     ensures few { result ≤ 37 }
 {
     if x.count == 2 {
@@ -139,7 +139,7 @@ fn put_second(buf: &mut [u8], x: Links) -> usize
 
 // The line of a category's broader ones (S24, W7).
 pub fn write_under(buf: &mut [u8], x: Links) -> usize
-    ensures is { Lined buf.old buf.new (underText (linksOf (rawLinks x)) ∷ []) result }
+    ensures is { Lined buf.old buf.new (under_text (links_of (raw_links x)) ∷ []) result }
     ensures few { result ≤ 73 }
 {
     let a = put_number(buf, b"under=", wide(x.first));

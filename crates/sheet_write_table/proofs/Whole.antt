@@ -9,29 +9,29 @@ use Rattle.spec_model.specs.Check.{table_of}
 use Rattle.spec_model.proofs.Lists.{take-from}
 use Rattle.table_record.specs.declared.Counts.{Counts}
 use Rattle.table_record.specs.Limits.{Limits}
-use Rattle.table_record.specs.Store.{rawTable, broaderOf}
+use Rattle.table_record.specs.Store.{raw_table, broader_of}
 use Rattle.table_record.proofs.Lists.{length_from}
 use Rattle.spec_sheet.specs.Lines.{bytes, join}
-use Rattle.spec_sheet.specs.Text.{newestForm, numberText, each, typeLines, endText, sheetLines, text}
+use Rattle.spec_sheet.specs.Text.{newest_form, number_text, each, type_lines, end_text, sheet_lines, text}
 use Rattle.text_write.specs.Fill.{Filled, Lined}
 use Rattle.text_write.proofs.Laws.{fill_is}
-use Rattle.sheet_write_table.specs.Parts.{typeIn, typeLinesTo, underLines, countLines, frontLines, backLines}
+use Rattle.sheet_write_table.specs.Parts.{type_in, type_lines_to, under_lines, count_lines, front_lines, back_lines}
 
 regroup : (front u x e : List (List ℕ)) (t : List ℕ) → (front ++ (u ++ (t ∷ []))) ++ (x ++ e) ≡ (front ++ (u ++ (t ∷ x))) ++ e
 regroup front u x e t = simp append_assoc
 
 module _ (b l : List ℕ) (c : Counts) where
   -- the sheet's lines and the last, with the number of categories and the list of types as they stand in the table
-  abbrev linesWith : ℕ → List Ty → List (List ℕ)
-  linesWith n ts = (numberText (bytes "guide=") newestForm ∷ numberText (bytes "subjects=") c.subjects ∷ numberText (bytes "methods=") c.methods ∷ numberText (bytes "cats=") n
-      ∷ (underLines l c.cats ++ (numberText (bytes "types=") c.sheet ∷ each typeLines 0 ts))) ++ (endText ∷ [])
+  abbrev lines_with : ℕ → List Ty → List (List ℕ)
+  lines_with n ts = (number_text (bytes "guide=") newest_form ∷ number_text (bytes "subjects=") c.subjects ∷ number_text (bytes "methods=") c.methods ∷ number_text (bytes "cats=") n
+      ∷ (under_lines l c.cats ++ (number_text (bytes "types=") c.sheet ∷ each type_lines 0 ts))) ++ (end_text ∷ [])
 
-  parts_are : c.sheet ≤ c.types → join (frontLines l c ++ backLines b c) ≡ text (table_of (rawTable b l c))
-  unfolding text sheetLines table_of frontLines backLines underLines typeLinesTo
+  parts_are : c.sheet ≤ c.types → join (front_lines l c ++ back_lines b c) ≡ text (table_of (raw_table b l c))
+  unfolding text sheet_lines table_of front_lines back_lines under_lines type_lines_to
   parts_are h =
-      ap join (regroup (countLines c) (underLines l c.cats) (typeLinesTo b c c.sheet) (endText ∷ []) (numberText (bytes "types=") c.sheet))
-      ∙ ap (λ z. join (linesWith z (from c.sheet 0 (typeIn b c)))) (sym (length_from (broaderOf l) c.cats 1))
-      ∙ ap (λ z. join (linesWith (length (from c.cats 1 (broaderOf l))) z)) (sym (take-from (typeIn b c) c.sheet c.types 0 h))
+      ap join (regroup (count_lines c) (under_lines l c.cats) (type_lines_to b c c.sheet) (end_text ∷ []) (number_text (bytes "types=") c.sheet))
+      ∙ ap (λ z. join (lines_with z (from c.sheet 0 (type_in b c)))) (sym (length_from (broader_of l) c.cats 1))
+      ∙ ap (λ z. join (lines_with (length (from c.cats 1 (broader_of l))) z)) (sym (take-from (type_in b c) c.sheet c.types 0 h))
 
-  pub sheet-is : {old new : List ℕ} {r : ℕ} → Limits c → Lined old new (frontLines l c ++ backLines b c) r → Filled old new (text (table_of (rawTable b l c))) r
+  pub sheet-is : {old new : List ℕ} {r : ℕ} → Limits c → Lined old new (front_lines l c ++ back_lines b c) r → Filled old new (text (table_of (raw_table b l c))) r
   sheet-is g f = fill_is (parts_are g.counted) f.filled

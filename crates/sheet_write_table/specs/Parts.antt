@@ -2,33 +2,33 @@
 use Rattle.std.specs.Prelude.{List, [], ◌∷◌, ◌++◌, ℕ, get_or}
 use Rattle.spec_model.specs.Basics.{from}
 use Rattle.spec_model.specs.Table.{Ty}
-use Rattle.spec_model.specs.Check.{noRawType, type_of}
+use Rattle.spec_model.specs.Check.{no_raw_type, type_of}
 use Rattle.table_record.specs.declared.Counts.{Counts}
-use Rattle.table_record.specs.Store.{types_in, methodIn, broaderOf}
+use Rattle.table_record.specs.Store.{types_in, method_in, broader_of}
 use Rattle.spec_sheet.specs.Lines.{bytes}
-use Rattle.spec_sheet.specs.Text.{newestForm, numberText, underText, methodText, each, typeLines, endText}
+use Rattle.spec_sheet.specs.Text.{newest_form, number_text, under_text, method_text, each, type_lines, end_text}
 
 -- a type in the bytes
-abbrev pub typeIn : List ℕ → Counts → ℕ → Ty
-typeIn b c i = type_of c.methods c.sheet i (get_or (types_in b) i noRawType)
+abbrev pub type_in : List ℕ → Counts → ℕ → Ty
+type_in b c i = type_of c.methods c.sheet i (get_or (types_in b) i no_raw_type)
 
 -- the lines of the first n methods of type i, of the first n types, and of the first n categories
-unfoldable pub methodLines : List ℕ → ℕ → ℕ → List (List ℕ)
-methodLines b i n = each (λ j m. methodText m ∷ []) 0 (from n 0 (methodIn b i))
+unfoldable pub method_lines : List ℕ → ℕ → ℕ → List (List ℕ)
+method_lines b i n = each (λ j m. method_text m ∷ []) 0 (from n 0 (method_in b i))
 
-unfoldable pub typeLinesTo : List ℕ → Counts → ℕ → List (List ℕ)
-typeLinesTo b c n = each typeLines 0 (from n 0 (typeIn b c))
+unfoldable pub type_lines_to : List ℕ → Counts → ℕ → List (List ℕ)
+type_lines_to b c n = each type_lines 0 (from n 0 (type_in b c))
 
-unfoldable pub underLines : List ℕ → ℕ → List (List ℕ)
-underLines l n = each (λ k links. underText links ∷ []) 1 (from n 1 (broaderOf l))
+unfoldable pub under_lines : List ℕ → ℕ → List (List ℕ)
+under_lines l n = each (λ k links. under_text links ∷ []) 1 (from n 1 (broader_of l))
 
 -- the lines in front of the types
-abbrev pub countLines : Counts → List (List ℕ)
-countLines c = numberText (bytes "guide=") newestForm ∷ numberText (bytes "subjects=") c.subjects ∷ numberText (bytes "methods=") c.methods ∷ numberText (bytes "cats=") c.cats ∷ []
+abbrev pub count_lines : Counts → List (List ℕ)
+count_lines c = number_text (bytes "guide=") newest_form ∷ number_text (bytes "subjects=") c.subjects ∷ number_text (bytes "methods=") c.methods ∷ number_text (bytes "cats=") c.cats ∷ []
 
-unfoldable pub frontLines : List ℕ → Counts → List (List ℕ)
-frontLines l c = countLines c ++ (underLines l c.cats ++ (numberText (bytes "types=") c.sheet ∷ []))
+unfoldable pub front_lines : List ℕ → Counts → List (List ℕ)
+front_lines l c = count_lines c ++ (under_lines l c.cats ++ (number_text (bytes "types=") c.sheet ∷ []))
 
 -- the lines of the sheet types, without derived ones (W5), and the last line
-unfoldable pub backLines : List ℕ → Counts → List (List ℕ)
-backLines b c = typeLinesTo b c c.sheet ++ (endText ∷ [])
+unfoldable pub back_lines : List ℕ → Counts → List (List ℕ)
+back_lines b c = type_lines_to b c c.sheet ++ (end_text ∷ [])

@@ -1,14 +1,14 @@
 // The text of a table's sheet (W) into a lent buffer, part by part. Each writer is lent what the ones before it left free of the buffer (F2).
 // Writers are total (crate `text_write`): they say how long their text is, also where it does not fit.
 ghost use Rattle.std.specs.Prelude.{[], ◌∷◌, ◌≤◌, ◌<◌, eqb};
-ghost use Rattle.spec_model.specs.Check.{repOf, table_of};
-ghost use Rattle.spec_model.specs.Table.{maxMethods, maxCategories, maxTypes};
+ghost use Rattle.spec_model.specs.Check.{rep_of, table_of};
+ghost use Rattle.spec_model.specs.Table.{max_methods, max_categories, max_types};
 ghost use Rattle.table_record.specs.Limits.{Limits};
-ghost use Rattle.table_record.specs.Store.{rawTable};
+ghost use Rattle.table_record.specs.Store.{raw_table};
 ghost use Rattle.spec_sheet.specs.Lines.{bytes};
-ghost use Rattle.spec_sheet.specs.Text.{numberText, repText, ownText, typeLines, text};
+ghost use Rattle.spec_sheet.specs.Text.{number_text, rep_text, own_text, type_lines, text};
 ghost use Rattle.text_write.specs.Fill.{Filled, Lined};
-ghost use Rattle.sheet_write_table.specs.Parts.{typeIn, methodLines, typeLinesTo, underLines, countLines, frontLines, backLines};
+ghost use Rattle.sheet_write_table.specs.Parts.{type_in, method_lines, type_lines_to, under_lines, count_lines, front_lines, back_lines};
 
 use base_numbers::{least, wide};
 use sheet_write_line::{write_method, write_own, write_rep, write_under};
@@ -20,8 +20,8 @@ const NEWEST_FORM: usize = 1;
 
 // The lines of the methods of type i.
 fn write_methods(buf: &mut [u8], b: &[u8; TYPE_BYTES], i: usize, methods: usize) -> usize
-    requires { (i < maxTypes) × (methods ≤ maxMethods) }
-    ensures is { Lined buf.old buf.new (methodLines b.now i methods) result }
+    requires { (i < max_types) × (methods ≤ max_methods) }
+    ensures is { Lined buf.old buf.new (method_lines b.now i methods) result }
     ensures few { result ≤ 2912 }
 {
     let mut at: usize = 0;
@@ -38,9 +38,9 @@ fn write_methods(buf: &mut [u8], b: &[u8; TYPE_BYTES], i: usize, methods: usize)
 
 // The first three lines of a type (S25).
 fn write_head(buf: &mut [u8], i: usize, h: Head) -> usize
-    requires { i < maxTypes }
+    requires { i < max_types }
     ensures is { Lined buf.old buf.new
-        (numberText (bytes "type=") i ∷ repText (repOf h.rep) ∷ numberText (bytes "cat=") h.cat ∷ []) result }
+        (number_text (bytes "type=") i ∷ rep_text (rep_of h.rep) ∷ number_text (bytes "cat=") h.cat ∷ []) result }
     ensures few { result ≤ 91 }
 {
     let a = write_number(buf, b"type=", i);
@@ -54,8 +54,8 @@ fn write_head(buf: &mut [u8], i: usize, h: Head) -> usize
 
 // The other lines of a reference type (S25).
 fn write_members(buf: &mut [u8], b: &[u8; TYPE_BYTES], i: usize, own: u8, methods: usize) -> usize
-    requires { (i < maxTypes) × (methods ≤ maxMethods) }
-    ensures is { Lined buf.old buf.new (ownText (eqb own 1) ∷ methodLines b.now i methods) result }
+    requires { (i < max_types) × (methods ≤ max_methods) }
+    ensures is { Lined buf.old buf.new (own_text (eqb own 1) ∷ method_lines b.now i methods) result }
     ensures few { result ≤ 2929 }
 {
     let a = write_own(buf, own);
@@ -66,8 +66,8 @@ fn write_members(buf: &mut [u8], b: &[u8; TYPE_BYTES], i: usize, own: u8, method
 
 // The lines of type i; a number type has only the first three.
 fn write_type(buf: &mut [u8], b: &[u8; TYPE_BYTES], c: Counts, i: usize) -> usize
-    requires { (i < maxTypes) × (c.methods ≤ maxMethods) }
-    ensures is { Lined buf.old buf.new (typeLines i (typeIn b.now c i)) result }
+    requires { (i < max_types) × (c.methods ≤ max_methods) }
+    ensures is { Lined buf.old buf.new (type_lines i (type_in b.now c i)) result }
     ensures few { result ≤ 3020 }
 {
     let h = table_record::get_head(b, i);
@@ -83,7 +83,7 @@ fn write_type(buf: &mut [u8], b: &[u8; TYPE_BYTES], c: Counts, i: usize) -> usiz
 // The sheet types, and no derived ones (W5).
 fn write_types(buf: &mut [u8], b: &[u8; TYPE_BYTES], c: Counts) -> usize
     requires { Limits c }
-    ensures is { Lined buf.old buf.new (typeLinesTo b.now c c.sheet) result }
+    ensures is { Lined buf.old buf.new (type_lines_to b.now c c.sheet) result }
     ensures few { result ≤ 144960 }
 {
     let n = c.sheet;
@@ -100,8 +100,8 @@ fn write_types(buf: &mut [u8], b: &[u8; TYPE_BYTES], c: Counts) -> usize
 
 // The lines of the categories, of which the first is category 1.
 fn write_unders(buf: &mut [u8], l: &[u8; LINK_BYTES], cats: usize) -> usize
-    requires { cats ≤ maxCategories }
-    ensures is { Lined buf.old buf.new (underLines l.now cats) result }
+    requires { cats ≤ max_categories }
+    ensures is { Lined buf.old buf.new (under_lines l.now cats) result }
     ensures few { result ≤ 2263 }
 {
     let mut at: usize = 0;
@@ -119,7 +119,7 @@ fn write_unders(buf: &mut [u8], l: &[u8; LINK_BYTES], cats: usize) -> usize
 // The first four lines (S22).
 fn write_counts(buf: &mut [u8], c: Counts) -> usize
     requires { Limits c }
-    ensures is { Lined buf.old buf.new (countLines c) result }
+    ensures is { Lined buf.old buf.new (count_lines c) result }
     ensures few { result ≤ 148 }
 {
     let a = write_number(buf, b"guide=", NEWEST_FORM);
@@ -134,7 +134,7 @@ fn write_counts(buf: &mut [u8], c: Counts) -> usize
 // The lines in front of the types.
 fn write_front(buf: &mut [u8], l: &[u8; LINK_BYTES], c: Counts) -> usize
     requires { Limits c }
-    ensures is { Lined buf.old buf.new (frontLines l.now c) result }
+    ensures is { Lined buf.old buf.new (front_lines l.now c) result }
     ensures few { result ≤ 2448 }
 {
     let a = write_counts(buf, c);
@@ -149,7 +149,7 @@ fn write_front(buf: &mut [u8], l: &[u8; LINK_BYTES], c: Counts) -> usize
 // The types, and the last line.
 fn write_back(buf: &mut [u8], b: &[u8; TYPE_BYTES], c: Counts) -> usize
     requires { Limits c }
-    ensures is { Lined buf.old buf.new (backLines b.now c) result }
+    ensures is { Lined buf.old buf.new (back_lines b.now c) result }
     ensures few { result ≤ 144977 }
 {
     let a = write_types(buf, b, c);
@@ -161,7 +161,7 @@ fn write_back(buf: &mut [u8], b: &[u8; TYPE_BYTES], c: Counts) -> usize
 // The whole sheet.
 pub fn put_sheet(buf: &mut [u8], b: &[u8; TYPE_BYTES], l: &[u8; LINK_BYTES], c: Counts) -> usize
     requires { Limits c }
-    ensures { Filled buf.old buf.new (text (table_of (rawTable b.now l.now c))) result }
+    ensures { Filled buf.old buf.new (text (table_of (raw_table b.now l.now c))) result }
 {
     let a = write_front(buf, l, c);
     let k = least(a, buf.len());

@@ -6,7 +6,7 @@ use Prim.Native.String.{String}
 use Rattle.spec_model.specs.Basics.{Res, refuse, ok}
 use Rattle.spec_sheet.specs.Lines.{bytes, join}
 use Rattle.spec_doors.specs.Held.{Counts, held}
-use Rattle.spec_doors.specs.Output.{doorsOutput}
+use Rattle.spec_doors.specs.Output.{doors_output}
 
 abbrev got : ℕ → ℕ → ℕ → Res Counts
 got n m a = ok (record { pairs = n; marks = m; arrivals = a })
@@ -76,7 +76,7 @@ too-many-arrivals = refl
 -- ---- Inputs of the program (P27 to P29)
 abbrev printed : List String → List (List ℕ)
 printed [] = []
-printed (s ∷ ss) = doorsOutput (bytes s) ∷ printed ss
+printed (s ∷ ss) = doors_output (bytes s) ∷ printed ss
 
 abbrev lines : List String → List (List ℕ)
 lines [] = []
@@ -95,5 +95,5 @@ pub proved-inputs : printed
     ∷ "no=22" ∷ "no=22"
     ∷ "no=1" ∷ "no=1" ∷ "no=1" ∷ "no=1" ∷ "no=1" ∷ "no=1" ∷ "no=1" ∷ "no=1"
     ∷ "no=1" ∷ "no=1" ∷ "no=1" ∷ "no=1" ∷ "no=1" ∷ "no=1" ∷ [])
-unfolding doorsOutput join
+unfolding doors_output join
 proved-inputs = refl

@@ -7,14 +7,14 @@ use native.Mathlib.Omega.{arith}
 use lib.Dec.{eqb}
 use lib.ListN.{length, drop}
 use Rattle.spec_model.specs.Basics.{Res, refuse, ok, try, need}
-use Rattle.spec_model.specs.Refusals.{form, outOfRange}
+use Rattle.spec_model.specs.Refusals.{form, out_of_range}
 use Rattle.spec_model.specs.Table.{between}
-use Rattle.spec_sheet.specs.Lines.{bytes, Row, row, cut, Reading, refused, got, Reader, line, line_at, follow, endOfInput, starts, keyed}
-use Rattle.spec_sheet.specs.Numbers.{Scan, fail, took, whole, isDigit, top, limit, digits, number}
-use Rattle.spec_sheet.specs.Sheet.{numberLine}
+use Rattle.spec_sheet.specs.Lines.{bytes, Row, row, cut, Reading, refused, got, Reader, line, line_at, follow, end_of_input, starts, keyed}
+use Rattle.spec_sheet.specs.Numbers.{Scan, fail, took, whole, is_digit, top, limit, digits, number}
+use Rattle.spec_sheet.specs.Sheet.{number_line}
 use Rattle.spec_sheet.proofs.LineKinds.{in_between}
-use Rattle.spec_sheet.proofs.Numbers.{isDigit-high}
-use Rattle.spec_doors.specs.Input.{Input, decimals, timesLine, inputLines}
+use Rattle.spec_sheet.proofs.Numbers.{is_digit-high}
+use Rattle.spec_doors.specs.Input.{Input, decimals, times_line, input_lines}
 
 -- ---- A number that is read
 abbrev AtMostTop : Scan ℕ → Type 0
@@ -28,16 +28,16 @@ cond_top false x y h k = k
 digits-top : (a : ℕ) (l : List ℕ) → a ≤ top → AtMostTop (digits a l)
 unfolding digits
 digits-top a [] h = h
-digits-top a (b ∷ bs) h = cond_top (isDigit b) _ _ (digits-top (limit (a * 10 + (b - 48))) bs (omega arith)) h
+digits-top a (b ∷ bs) h = cond_top (is_digit b) _ _ (digits-top (limit (a * 10 + (b - 48))) bs (omega arith)) h
 
 number-top : (l : List ℕ) → AtMostTop (number l)
 unfolding number
 number-top [] = tt
-number-top (b ∷ bs) = go (eqb b 48) (isDigit b) refl
+number-top (b ∷ bs) = go (eqb b 48) (is_digit b) refl
   where
-    go : (z d : Bool) → isDigit b ≡ d → AtMostTop (cond z (took 0 bs) (cond d (digits (b - 48) bs) fail))
+    go : (z d : Bool) → is_digit b ≡ d → AtMostTop (cond z (took 0 bs) (cond d (digits (b - 48) bs) fail))
     go true d e = omega arith
-    go false true e = digits-top (b - 48) bs (omega (arith, isDigit-high b e))
+    go false true e = digits-top (b - 48) bs (omega (arith, is_digit-high b e))
     go false false e = tt
 
 -- ---- A line, and the lines
@@ -50,24 +50,24 @@ whole-form fail = refl
 whole-form (took x []) = tt
 whole-form (took x (b ∷ r)) = refl
 
-within-form : (l : List ℕ) → OfForm (numberLine (bytes "within=") 0 top l)
-unfolding numberLine keyed
+within-form : (l : List ℕ) → OfForm (number_line (bytes "within=") 0 top l)
+unfolding number_line keyed
 within-form l = go (starts (bytes "within=") l)
   where
-    in-range : (n : ℕ) → n ≤ top → OfForm (need (between 0 top n) outOfRange λ _. ok n)
+    in-range : (n : ℕ) → n ≤ top → OfForm (need (between 0 top n) out_of_range λ _. ok n)
     in-range n h = rw (in_between 0 top n (omega arith) h) tt
 
-    scanned : (s : Scan ℕ) → AtMostTop s → OfForm (try (whole s) λ n. need (between 0 top n) outOfRange λ _. ok n)
+    scanned : (s : Scan ℕ) → AtMostTop s → OfForm (try (whole s) λ n. need (between 0 top n) out_of_range λ _. ok n)
     scanned fail h = refl
     scanned (took n []) h = in-range n h
     scanned (took n (b ∷ r)) h = refl
 
-    go : (b : Bool) → OfForm (try (need b form λ _. ok (drop 7 l)) λ r. try (whole (number r)) λ n. need (between 0 top n) outOfRange λ _. ok n)
+    go : (b : Bool) → OfForm (try (need b form λ _. ok (drop 7 l)) λ r. try (whole (number r)) λ n. need (between 0 top n) out_of_range λ _. ok n)
     go false = refl
     go true = scanned (number (drop 7 l)) (number-top (drop 7 l))
 
-times-form : (l : List ℕ) → OfForm (timesLine l)
-unfolding timesLine
+times-form : (l : List ℕ) → OfForm (times_line l)
+unfolding times_line
 times-form [] = tt
 times-form (b ∷ bs) = whole-form (decimals (length (b ∷ bs)) [] (b ∷ bs))
 
@@ -88,14 +88,14 @@ follow-form : {A B : Type 0} (r : Reading A) (k : A → Reader B) → OfForms r 
 follow-form (refused n at) k h f = h
 follow-form (got x at rs) k h f = f x at rs
 
-end-form : (at : ℕ) (rs : List Row) → OfForms (endOfInput at rs)
+end-form : (at : ℕ) (rs : List Row) → OfForms (end_of_input at rs)
 end-form at [] = tt
 end-form at (r ∷ rs) = refl
 
-pub input-form : (at : ℕ) (rs : List Row) → OfForms (inputLines at rs)
-unfolding inputLines
+pub input-form : (at : ℕ) (rs : List Row) → OfForms (input_lines at rs)
+unfolding input_lines
 input-form at rs = follow-form (line _ at rs) _ (line-form _ within-form at rs) λ w at rs. follow-form (line _ at rs) _ (line-form _ times-form at rs)
-    λ ms at rs. follow-form (line _ at rs) _ (line-form _ times-form at rs) λ xs at rs. follow-form (endOfInput at rs) _ (end-form at rs) λ _ at rs. tt
+    λ ms at rs. follow-form (line _ at rs) _ (line-form _ times-form at rs) λ xs at rs. follow-form (end_of_input at rs) _ (end-form at rs) λ _ at rs. tt
 
 -- ---- What is accepted was read to its end.
 abbrev pub Ended : {A : Type 0} → Reading A → Type 0
@@ -106,11 +106,11 @@ follow-ended : {A B : Type 0} (r : Reading A) (k : A → Reader B) → ((x : A) 
 follow-ended (refused n at) k f = tt
 follow-ended (got x at rs) k f = f x at rs refl
 
-nothing-behind : (x : Input) (at : ℕ) (rs : List Row) → Ended (follow (endOfInput at rs) λ _ at rs. got x at rs)
+nothing-behind : (x : Input) (at : ℕ) (rs : List Row) → Ended (follow (end_of_input at rs) λ _ at rs. got x at rs)
 nothing-behind x at [] = refl
 nothing-behind x at (r ∷ rs) = tt
 
-pub input-ended : (at : ℕ) (rs : List Row) → Ended (inputLines at rs)
-unfolding inputLines
+pub input-ended : (at : ℕ) (rs : List Row) → Ended (input_lines at rs)
+unfolding input_lines
 input-ended at rs = follow-ended (line _ at rs) _ λ w at rs _. follow-ended (line _ at rs) _ λ ms at rs _. follow-ended (line _ at rs) _ λ xs at rs _.
     nothing-behind (record { within = w; marks = ms; arrivals = xs }) at rs

@@ -9,9 +9,9 @@ use lib.Dec.{ltb}
 use lib.ListN.{length}
 use borrow.Author.Tests.{ltb-true, ltb-false}
 use Rattle.spec_model.specs.Basics.{Res, ok, need}
-use Rattle.spec_model.specs.Refusals.{unfitTimes}
+use Rattle.spec_model.specs.Refusals.{unfit_times}
 use Rattle.spec_doors.specs.Times.{all_fit}
-use Rattle.spec_doors.specs.Held.{Counts, pairsOf, counts, held}
+use Rattle.spec_doors.specs.Held.{Counts, pairs_of, counts, held}
 use Rattle.spec_doors.specs.Paired.{time, Most, Counted, Paired, unfit, counted}
 use Rattle.spec_doors.proofs.Rising.{Ordered, ordered, marks-fit, arrivals-fit, all-fit, fit_all, fit-rising}
 use Rattle.spec_doors.proofs.Pass.{left, few-pairs, no-marks, no-arrivals, mark-early, arrival-early, paired}
@@ -67,8 +67,8 @@ module _ (marks arrivals : List ℕ) (within : ℕ) where
         by-marks go_on true e = by-arrivals go_on (ltb-true i (length marks) e) (ltb j (length arrivals)) refl
         by-marks go_on false e = let h = ltb-false i (length marks) e in over i j n (no-marks within marks arrivals i j h) (inl h) s
 
-    most-pairs : Most marks arrivals within (pairsOf within marks arrivals)
-    most-pairs = let z : 0 + left within marks arrivals 0 0 ≡ pairsOf within marks arrivals = omega arith in
+    most-pairs : Most marks arrivals within (pairs_of within marks arrivals)
+    most-pairs = let z : 0 + left within marks arrivals 0 0 ≡ pairs_of within marks arrivals = omega arith in
         subst (Most marks arrivals within) z (goes (length marks + length arrivals) 0 0 0 (omega arith) (begin marks arrivals within))
 
   -- ---- The result
@@ -76,19 +76,19 @@ module _ (marks arrivals : List ℕ) (within : ℕ) where
   unfolding held
   held-is = go (all_fit marks arrivals within) refl
     where
-      go : (b : Bool) → all_fit marks arrivals within ≡ b → Paired marks arrivals within (need b unfitTimes λ _. ok (counts marks arrivals (pairsOf within marks arrivals)))
+      go : (b : Bool) → all_fit marks arrivals within ≡ b → Paired marks arrivals within (need b unfit_times λ _. ok (counts marks arrivals (pairs_of within marks arrivals)))
       go false e = unfit (λ f. false≢true (sym e ∙ fit_all marks arrivals within f))
-      go true e = counted {c = counts marks arrivals (pairsOf within marks arrivals)} (record {
+      go true e = counted {c = counts marks arrivals (pairs_of within marks arrivals)} (record {
         fit = all-fit marks arrivals within e;
         most = m;
         all-marks = omega (arith, l.0);
         all-arrivals = omega (arith, l.1);
       })
         where
-          m : Most marks arrivals within (pairsOf within marks arrivals)
+          m : Most marks arrivals within (pairs_of within marks arrivals)
           m = most-pairs (ordered 0 marks (fit-rising marks (marks-fit marks arrivals within e))) (ordered 0 arrivals (fit-rising arrivals (arrivals-fit marks arrivals within e)))
 
-          l : (pairsOf within marks arrivals ≤ length marks) × (pairsOf within marks arrivals ≤ length arrivals)
+          l : (pairs_of within marks arrivals ≤ length marks) × (pairs_of within marks arrivals ≤ length arrivals)
           l = few-pairs within marks arrivals
 
   -- the same count by two pairings, each the largest

@@ -2,8 +2,8 @@
 -- keeps it.
 use Rattle.std.specs.Prelude.{◌≡◌, List, [], ◌∷◌, ℕ, ◌+◌, ◌≤◌, ◌<◌, length, get_or}
 use Rattle.spec_model.specs.Basics.{Res, refuse, ok}
-use Rattle.spec_model.specs.Refusals.{unfitTimes}
-use Rattle.spec_doors.specs.Times.{maxTimes, lastTime, maxTolerance}
+use Rattle.spec_model.specs.Refusals.{unfit_times}
+use Rattle.spec_doors.specs.Times.{max_times, last_time, max_tolerance}
 use Rattle.spec_doors.specs.Held.{Counts}
 
 -- entry k of a list
@@ -12,14 +12,14 @@ time xs k = get_or xs k 0
 
 -- ---- What may be handed in (V1, V2)
 pub record Times (xs : List ℕ) : Type 0 where
-  pub few : length xs ≤ maxTimes
-  pub last : (k : ℕ) → k < length xs → time xs k ≤ lastTime
+  pub few : length xs ≤ max_times
+  pub last : (k : ℕ) → k < length xs → time xs k ≤ last_time
   pub rising : (k : ℕ) → k + 1 < length xs → time xs k ≤ time xs (k + 1)
 
 pub record Fit (marks arrivals : List ℕ) (within : ℕ) : Type 0 where
   pub mark-times : Times marks
   pub arrival-times : Times arrivals
-  pub tolerance : within ≤ maxTolerance
+  pub tolerance : within ≤ max_tolerance
 
 -- ---- Pairings (V4, V5)
 -- a mark and an arrival, by their indices
@@ -63,5 +63,5 @@ pub record Counted (marks arrivals : List ℕ) (within : ℕ) (c : Counts) : Typ
   pub all-arrivals : c.pairs + c.arrivals ≡ length arrivals
 
 pub data Paired (marks arrivals : List ℕ) (within : ℕ) : Res Counts → Type 0 where
-  unfit : (Fit marks arrivals within → ⊥) → Paired marks arrivals within (refuse unfitTimes)
+  unfit : (Fit marks arrivals within → ⊥) → Paired marks arrivals within (refuse unfit_times)
   counted : {c : Counts} → Counted marks arrivals within c → Paired marks arrivals within (ok c)

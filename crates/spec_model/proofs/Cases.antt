@@ -7,16 +7,16 @@ use Prim.Native.Nat.{ℕ}
 use lib.IntN.{pos, negsuc}
 use lib.ListN.{drop}
 use Rattle.spec_model.specs.Basics.{all}
-use Rattle.spec_model.specs.Table.{denied, optional, avail, unavail, sub, sup, closed, Ty, Table, noType, size, validSheet, signed, bare}
+use Rattle.spec_model.specs.Table.{denied, optional, avail, unavail, sub, sup, closed, Ty, Table, no_type, size, valid_sheet, signed, bare}
 use Rattle.spec_model.specs.Requests.{System, Request, move, pair, number, nothing, Outcome, outcome, got, refused, loaded, serve, after, run}
 use Rattle.spec_model.specs.Chains.{permits, offered}
-use Rattle.spec_model.specs.Book.{Book, pageAt, enter}
+use Rattle.spec_model.specs.Book.{Book, page_at, enter}
 use Rattle.spec_model.specs.Claim.{follow, reached}
-use Rattle.spec_model.proofs.CasesWords.{type, owned, derivedAs, sheetOf, new', move', call', answer'}
+use Rattle.spec_model.proofs.CasesWords.{type, owned, derived_as, sheet_of, new', move', call', answer'}
 
 -- ---- Case P (K1)
-abbrev pub caseP : Table
-caseP = sheetOf 3 3 (noType
+abbrev pub case_p : Table
+case_p = sheet_of 3 3 (no_type
     ∷ type (signed avail [] (some 0) ∷ signed avail (0 ∷ []) none ∷ bare avail ∷ [])
     ∷ type (signed avail [] (some 0) ∷ bare denied ∷ bare denied ∷ [])
     ∷ type (signed avail [] (some 0) ∷ signed optional (0 ∷ []) none ∷ bare denied ∷ [])
@@ -26,7 +26,7 @@ caseP = sheetOf 3 3 (noType
 
 -- A reference that gets two adapters: type 1 takes method 1 away, type 2 does not show method 2, and type 3 asks for it again. Type 4 is the class with own.
 abbrev pub twice : Table
-twice = sheetOf 2 3 (
+twice = sheet_of 2 3 (
     type (bare avail ∷ bare avail ∷ bare avail ∷ [])
     ∷ type (bare avail ∷ bare unavail ∷ bare avail ∷ [])
     ∷ type (bare avail ∷ bare denied ∷ bare denied ∷ [])
@@ -36,7 +36,7 @@ twice = sheetOf 2 3 (
 
 -- Answers that are references: type 1 answers with 2, which shows nothing, and type 3 with 4, which asks for method 1 again.
 abbrev pub answering : Table
-answering = sheetOf 2 2 (
+answering = sheet_of 2 2 (
     type (signed avail [] (some 0) ∷ bare avail ∷ [])
     ∷ type (signed avail [] (some 2) ∷ bare denied ∷ [])
     ∷ type (bare denied ∷ bare denied ∷ [])
@@ -46,7 +46,7 @@ answering = sheetOf 2 2 (
 
 -- Signatures of signatures: the two sides differ in every argument and answer, and those differ again.
 abbrev pub nested : Table
-nested = sheetOf 1 2 (
+nested = sheet_of 1 2 (
     type (signed avail (2 ∷ 3 ∷ []) (some 4) ∷ signed avail (3 ∷ []) (some 5) ∷ [])
     ∷ type (signed optional (3 ∷ 2 ∷ []) (some 5) ∷ signed avail (2 ∷ []) (some 4) ∷ [])
     ∷ type (signed avail [] (some 4) ∷ bare denied ∷ [])
@@ -55,8 +55,8 @@ nested = sheetOf 1 2 (
     ∷ type (bare denied ∷ bare optional ∷ [])
     ∷ [])
 
-pub all_valid : all validSheet (caseP ∷ twice ∷ answering ∷ nested ∷ []) ≡ true
-unfolding validSheet
+pub all_valid : all valid_sheet (case_p ∷ twice ∷ answering ∷ nested ∷ []) ≡ true
+unfolding valid_sheet
 all_valid = refl
 
 -- ---- Demand 3 evaluated: what the state offers in a cell and what the book says of its page, each computed on its own. Requests are served once for all chains that are asked.
@@ -70,14 +70,14 @@ pub record Look : Type 0 where
   pub requests : List Request
   pub asks : List Ask
 
-abbrev bookSays : Book → ℕ → List ℕ → Bool
-bookSays b k w = permits b.table (pageAt b k).class w && all (λ x. permits b.table x w) (pageAt b k).trail
+abbrev book_says : Book → ℕ → List ℕ → Bool
+book_says b k w = permits b.table (page_at b k).class w && all (λ x. permits b.table x w) (page_at b k).trail
 
-abbrev comparisonAt : System × Book → Ask → Bool × Bool
-comparisonAt x a = (offered x.0 a.cell a.chain, bookSays x.1 a.cell a.chain)
+abbrev comparison_at : System × Book → Ask → Bool × Bool
+comparison_at x a = (offered x.0 a.cell a.chain, book_says x.1 a.cell a.chain)
 
 abbrev pub Seen : Look → Type 0
-Seen l = map (comparisonAt (reached l.table l.requests)) l.asks ≡ map (λ a. (a.says, a.says)) l.asks
+Seen l = map (comparison_at (reached l.table l.requests)) l.asks ≡ map (λ a. (a.says, a.says)) l.asks
 
 abbrev pub AllSeen : List Look → Type 0
 AllSeen [] = Unit
@@ -91,7 +91,7 @@ looks =
     -- Case P: read is offered in cell 2, mark is not, since type 2 was crossed. Cell 1 has type 2: what the object provides beyond it is not offered. Cell 3 is its owner's,
     -- who unwrapped: all is offered again
     record {
-      table = caseP;
+      table = case_p;
       requests = new' 0 1 4 ∷ move' 0 0 1 2 ∷ move' 1 1 2 3 ∷ move' 2 2 0 4 ∷ [];
       asks = ask 2 (0 ∷ []) true ∷ ask 2 (1 ∷ []) false ∷ ask 1 (1 ∷ []) false ∷ ask 3 (1 ∷ []) true ∷ [];
     }
@@ -141,10 +141,10 @@ abbrev pub AllHold : List Case → Type 0
 AllHold [] = Unit
 AllHold (c ∷ cs) = Holds c × AllHold cs
 
-abbrev pub provedCases : List Case
-provedCases =
+abbrev pub proved_cases : List Case
+proved_cases =
     record {
-      table = caseP;
+      table = case_p;
       rows =
           -- K9, on the loaded sheet
           row 6 (new' 0 2 2) (refused 7)
@@ -198,39 +198,39 @@ provedCases =
     }
     ∷ []
 
-pub proved-cases : AllHold provedCases
+pub proved-cases : AllHold proved_cases
 unfolding told
 proved-cases = (refl, (refl, (refl, tt)))
 
 -- ---- Worked derivations: every derived type with its number, key and methods. They show the order (D17); 9 is used again in
 -- method 1 of type 6, and the second request derives nothing.
-abbrev derivedTypes : Table → List Request → List Ty
-derivedTypes t qs = drop t.sheet (run (loaded t) qs).1.table.types
+abbrev derived_types : Table → List Request → List Ty
+derived_types t qs = drop t.sheet (run (loaded t) qs).1.table.types
 
-pub worked-nested : derivedTypes nested (new' 0 0 1 ∷ new' 0 0 1 ∷ []) ≡
-    derivedAs sub 1 0 (signed optional (7 ∷ 9 ∷ []) (some 11) ∷ signed avail (9 ∷ []) (some 12) ∷ [])
-    ∷ derivedAs sup 2 3 (signed avail [] (some 8) ∷ bare denied ∷ [])
-    ∷ derivedAs sup 4 5 (bare denied ∷ bare optional ∷ [])
-    ∷ derivedAs sup 3 2 (signed avail [] (some 10) ∷ bare denied ∷ [])
-    ∷ derivedAs sup 5 4 (bare denied ∷ bare optional ∷ [])
-    ∷ derivedAs sub 5 4 (bare denied ∷ bare optional ∷ [])
-    ∷ derivedAs sub 4 5 (bare unavail ∷ bare optional ∷ [])
-    ∷ derivedAs closed 6 0 (signed avail (14 ∷ 16 ∷ []) (some 18) ∷ signed avail (16 ∷ []) (some 19) ∷ [])
-    ∷ derivedAs sup 2 7 (signed avail [] (some 15) ∷ bare denied ∷ [])
-    ∷ derivedAs sup 4 8 (bare denied ∷ bare optional ∷ [])
-    ∷ derivedAs sup 3 9 (signed avail [] (some 17) ∷ bare denied ∷ [])
-    ∷ derivedAs sup 5 10 (bare denied ∷ bare optional ∷ [])
-    ∷ derivedAs sub 11 4 (bare denied ∷ bare optional ∷ [])
-    ∷ derivedAs sub 12 5 (bare unavail ∷ bare optional ∷ [])
+pub worked-nested : derived_types nested (new' 0 0 1 ∷ new' 0 0 1 ∷ []) ≡
+    derived_as sub 1 0 (signed optional (7 ∷ 9 ∷ []) (some 11) ∷ signed avail (9 ∷ []) (some 12) ∷ [])
+    ∷ derived_as sup 2 3 (signed avail [] (some 8) ∷ bare denied ∷ [])
+    ∷ derived_as sup 4 5 (bare denied ∷ bare optional ∷ [])
+    ∷ derived_as sup 3 2 (signed avail [] (some 10) ∷ bare denied ∷ [])
+    ∷ derived_as sup 5 4 (bare denied ∷ bare optional ∷ [])
+    ∷ derived_as sub 5 4 (bare denied ∷ bare optional ∷ [])
+    ∷ derived_as sub 4 5 (bare unavail ∷ bare optional ∷ [])
+    ∷ derived_as closed 6 0 (signed avail (14 ∷ 16 ∷ []) (some 18) ∷ signed avail (16 ∷ []) (some 19) ∷ [])
+    ∷ derived_as sup 2 7 (signed avail [] (some 15) ∷ bare denied ∷ [])
+    ∷ derived_as sup 4 8 (bare denied ∷ bare optional ∷ [])
+    ∷ derived_as sup 3 9 (signed avail [] (some 17) ∷ bare denied ∷ [])
+    ∷ derived_as sup 5 10 (bare denied ∷ bare optional ∷ [])
+    ∷ derived_as sub 11 4 (bare denied ∷ bare optional ∷ [])
+    ∷ derived_as sub 12 5 (bare unavail ∷ bare optional ∷ [])
     ∷ []
 unfolding run
 worked-nested = refl
 
-pub worked-answering : derivedTypes answering (new' 0 0 1 ∷ move' 0 0 1 3 ∷ []) ≡
-    derivedAs sub 3 1 (signed avail [] (some 6) ∷ bare denied ∷ [])
-    ∷ derivedAs sub 4 2 (bare denied ∷ bare unavail ∷ [])
-    ∷ derivedAs closed 5 0 (signed avail [] (some 8) ∷ bare unavail ∷ [])
-    ∷ derivedAs sub 6 0 (bare denied ∷ bare unavail ∷ [])
+pub worked-answering : derived_types answering (new' 0 0 1 ∷ move' 0 0 1 3 ∷ []) ≡
+    derived_as sub 3 1 (signed avail [] (some 6) ∷ bare denied ∷ [])
+    ∷ derived_as sub 4 2 (bare denied ∷ bare unavail ∷ [])
+    ∷ derived_as closed 5 0 (signed avail [] (some 8) ∷ bare unavail ∷ [])
+    ∷ derived_as sub 6 0 (bare denied ∷ bare unavail ∷ [])
     ∷ []
 unfolding run
 worked-answering = refl

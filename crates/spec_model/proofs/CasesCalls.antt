@@ -7,21 +7,21 @@ use mathlib.Core.Option.{none}
 use Prim.Native.Nat.{ℕ, zero, suc}
 use lib.IntN.{pos}
 use lib.ListN.{replicate, length}
-use Rattle.spec_model.specs.Table.{avail, Table, noType, signed, bare}
+use Rattle.spec_model.specs.Table.{avail, Table, no_type, signed, bare}
 use Rattle.spec_model.specs.Crossing.{object}
 use Rattle.spec_model.specs.Requests.{Call, System, Request, Outcome, got, refused, pair, nothing, run}
 use Rattle.spec_model.specs.Check.{RawSystem}
-use Rattle.spec_model.specs.Handed.{rawLoaded, storedFrom, serveHanded}
-use Rattle.spec_model.specs.Callers.{seen, acceptedCalls}
-use Rattle.spec_model.proofs.Codes.{rawTableOf}
-use Rattle.spec_model.proofs.CasesWords.{type, sheetOf, cell, stateFrom, new', move', call', answer'}
+use Rattle.spec_model.specs.Handed.{raw_loaded, stored_from, serve_handed}
+use Rattle.spec_model.specs.Callers.{seen, accepted_calls}
+use Rattle.spec_model.proofs.Codes.{raw_table_of}
+use Rattle.spec_model.proofs.CasesWords.{type, sheet_of, cell, state_from, new', move', call', answer'}
 
 -- Subject 2 owns the object, of which method 1 takes a number; cells 0, 1 and 2 are held by 2, 0 and 1. No cell has its holder's number.
 abbrev sheet : ℕ → Table
-sheet subjects = sheetOf subjects 2 (type (bare avail ∷ signed avail (1 ∷ []) none ∷ []) ∷ noType ∷ [])
+sheet subjects = sheet_of subjects 2 (type (bare avail ∷ signed avail (1 ∷ []) none ∷ []) ∷ no_type ∷ [])
 
 abbrev among : ℕ → List Call → System
-among subjects calls = stateFrom (sheet subjects) (cell 2 0 0 ∷ cell 0 0 0 ∷ cell 1 0 0 ∷ []) (object 0 2 ∷ []) calls
+among subjects calls = state_from (sheet subjects) (cell 2 0 0 ∷ cell 0 0 0 ∷ cell 1 0 0 ∷ []) (object 0 2 ∷ []) calls
 
 -- so many calls of a subject, all answered, through a cell of another's: 2 is held by 1, 1 by 0
 abbrev made : ℕ → ℕ → ℕ → List Call
@@ -70,17 +70,17 @@ limits-given = (refl, (refl, (refl, (refl, tt))))
 
 -- the accepted calls of a subject in each of these, by the transcript (L28)
 abbrev own : ℕ → Asks → ℕ
-own n x = acceptedCalls n (seen x.requests x.gives)
+own n x = accepted_calls n (seen x.requests x.gives)
 
 pub limits-seen : (map (own 0) limits ≡ 1 ∷ 1 ∷ 0 ∷ 1 ∷ []) × (map (own 1) limits ≡ 1 ∷ 0 ∷ 0 ∷ 1 ∷ []) × (map (own 2) limits ≡ 1 ∷ 0 ∷ 0 ∷ 1 ∷ [])
 limits-seen = (refl, refl, refl)
 
 -- ---- handed in: 32 of each pass, 33 of the first or of the last are refused with 2; past the count of calls anything may stand
 abbrev stored : ℕ → List Call → RawSystem
-stored subjects calls = storedFrom (rawLoaded (rawTableOf (sheet subjects))) (among subjects calls)
+stored subjects calls = stored_from (raw_loaded (raw_table_of (sheet subjects))) (among subjects calls)
 
-abbrev answerTo : List Call → Outcome
-answerTo calls = (serveHanded (stored 3 calls) (move' 0 1 1 0)).outcome
+abbrev answer_to : List Call → Outcome
+answer_to calls = (serve_handed (stored 3 calls) (move' 0 1 1 0)).outcome
 
 abbrev counting : ℕ → RawSystem → RawSystem
 counting calls r = record {
@@ -88,16 +88,16 @@ counting calls r = record {
   cells = r.cells;
   places = r.places;
   calls = calls;
-  cellRecords = r.cellRecords;
-  placeRecords = r.placeRecords;
-  callRecords = r.callRecords;
+  cell_records = r.cell_records;
+  place_records = r.place_records;
+  call_records = r.call_records;
 }
 
-pub handed-limits : (answerTo (made 32 0 2 ++ made 32 1 1 ++ made 32 2 1) ≡ got (pair 3 0))
-    × (answerTo (made 33 0 2) ≡ refused 2)
-    × (answerTo (made 1 0 2 ++ made 33 2 1) ≡ refused 2)
-    × ((serveHanded (counting 32 (stored 3 (made 33 0 2))) (move' 0 1 1 0)).outcome ≡ got (pair 3 0))
-unfolding serveHanded storedFrom
+pub handed-limits : (answer_to (made 32 0 2 ++ made 32 1 1 ++ made 32 2 1) ≡ got (pair 3 0))
+    × (answer_to (made 33 0 2) ≡ refused 2)
+    × (answer_to (made 1 0 2 ++ made 33 2 1) ≡ refused 2)
+    × ((serve_handed (counting 32 (stored 3 (made 33 0 2))) (move' 0 1 1 0)).outcome ≡ got (pair 3 0))
+unfolding serve_handed stored_from
 handed-limits = (refl, refl, refl, refl)
 
 -- ---- 16 subjects with 32 each are 512 calls in all
@@ -105,6 +105,6 @@ abbrev everybody : ℕ → List Call
 everybody zero = []
 everybody (suc n) = made 32 n 2 ++ everybody n
 
-pub all-full : (length (everybody 16) ≡ 512) × ((serveHanded (stored 16 (everybody 16)) (call' 0 1 0 [])).outcome ≡ refused 18)
-unfolding serveHanded storedFrom
+pub all-full : (length (everybody 16) ≡ 512) × ((serve_handed (stored 16 (everybody 16)) (call' 0 1 0 [])).outcome ≡ refused 18)
+unfolding serve_handed stored_from
 all-full = (refl, refl)

@@ -8,11 +8,11 @@ use Rattle.spec_model.specs.Restriction.{restricted}
 abbrev states : List State
 states = denied ∷ optional ∷ avail ∷ unavail ∷ []
 
-abbrev restrictedBy : Kind → List (List State)
-restrictedBy d = map (λ a. map (restricted d a) states) states
+abbrev restricted_by : Kind → List (List State)
+restricted_by d = map (λ a. map (restricted d a) states) states
 
 -- Sub: the left's, unless the right permits less (D2)
-pub sub-states : restrictedBy sub ≡
+pub sub-states : restricted_by sub ≡
     (denied ∷ denied ∷ denied ∷ denied ∷ [])
     ∷ (unavail ∷ optional ∷ optional ∷ unavail ∷ [])
     ∷ (unavail ∷ avail ∷ avail ∷ unavail ∷ [])
@@ -21,7 +21,7 @@ pub sub-states : restrictedBy sub ≡
 sub-states = refl
 
 -- Sup: the right's, unless the left permits less (D4)
-pub sup-states : restrictedBy sup ≡
+pub sup-states : restricted_by sup ≡
     (denied ∷ denied ∷ denied ∷ unavail ∷ [])
     ∷ (denied ∷ optional ∷ avail ∷ unavail ∷ [])
     ∷ (denied ∷ optional ∷ avail ∷ unavail ∷ [])
@@ -30,7 +30,7 @@ pub sup-states : restrictedBy sup ≡
 sup-states = refl
 
 -- Closed: avail where the left permits and the right has it avail, else unavail (D8)
-pub closed-states : restrictedBy closed ≡
+pub closed-states : restricted_by closed ≡
     (unavail ∷ unavail ∷ unavail ∷ unavail ∷ [])
     ∷ (unavail ∷ unavail ∷ avail ∷ unavail ∷ [])
     ∷ (unavail ∷ unavail ∷ avail ∷ unavail ∷ [])

@@ -10,36 +10,36 @@ use Rattle.spec_model.specs.Crossing.{Place}
 use Rattle.spec_model.specs.Requests.{Cell, Call, System, Request, new, move, call, answer}
 
 -- a reference type: of the sheet, of a category, with own, and derived
-abbrev pub refType : ℕ → Bool → Option Key → List Method → Ty
-refType cat own key ms = record { rep = ref; cat = cat; own_val = own; methods = ms; key = key }
+abbrev pub ref_type : ℕ → Bool → Option Key → List Method → Ty
+ref_type cat own key ms = record { rep = ref; cat = cat; own = own; methods = ms; key = key }
 
 abbrev pub type : List Method → Ty
-type = refType 0 false none
+type = ref_type 0 false none
 
-abbrev pub typeIn : ℕ → List Method → Ty
-typeIn cat = refType cat false none
+abbrev pub type_in : ℕ → List Method → Ty
+type_in cat = ref_type cat false none
 
 abbrev pub owned : List Method → Ty
-owned = refType 0 true none
+owned = ref_type 0 true none
 
 abbrev pub number_in : Rep → ℕ → Ty
-number_in rep cat = record { rep = rep; cat = cat; own_val = false; methods = []; key = none }
+number_in rep cat = record { rep = rep; cat = cat; own = false; methods = []; key = none }
 
-abbrev pub derivedAs : Kind → ℕ → ℕ → List Method → Ty
-derivedAs d l r = refType 0 false (some (record { kind = d; left = l; right = r }))
+abbrev pub derived_as : Kind → ℕ → ℕ → List Method → Ty
+derived_as d l r = ref_type 0 false (some (record { kind = d; left = l; right = r }))
 
 -- a table of sheet types, with categories and without
-abbrev pub sheetIn : List (List ℕ) → ℕ → ℕ → List Ty → Table
-sheetIn cats subjects methods ts = record { subjects = subjects; methods = methods; cats = cats; sheet = length ts; types = ts }
+abbrev pub sheet_in : List (List ℕ) → ℕ → ℕ → List Ty → Table
+sheet_in cats subjects methods ts = record { subjects = subjects; methods = methods; cats = cats; sheet = length ts; types = ts }
 
-abbrev pub sheetOf : ℕ → ℕ → List Ty → Table
-sheetOf subjects methods ts = sheetIn [] subjects methods ts
+abbrev pub sheet_of : ℕ → ℕ → List Ty → Table
+sheet_of subjects methods ts = sheet_in [] subjects methods ts
 
 abbrev pub cell : ℕ → ℕ → ℕ → Cell
 cell holder type place = record { holder = holder; type = type; place = place }
 
-abbrev pub stateFrom : Table → List Cell → List Place → List Call → System
-stateFrom t cs ps ds = record { table = t; cells = cs; places = ps; calls = ds }
+abbrev pub state_from : Table → List Cell → List Place → List Call → System
+state_from t cs ps ds = record { table = t; cells = cs; places = ps; calls = ds }
 
 -- requests with numbers that are not negative
 abbrev pub new' : ℕ → ℕ → ℕ → Request

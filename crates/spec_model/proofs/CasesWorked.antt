@@ -8,7 +8,7 @@ use lib.ListN.{length, drop}
 use Rattle.spec_model.specs.Table.{denied, optional, avail, unavail, Table, signed, bare}
 use Rattle.spec_model.specs.Crossing.{Place, object, adapter}
 use Rattle.spec_model.specs.Requests.{Cell, System, Request, Outcome, got, pair, nothing, loaded, run}
-use Rattle.spec_model.proofs.CasesWords.{type, sheetOf, cell, new', move', call', answer'}
+use Rattle.spec_model.proofs.CasesWords.{type, sheet_of, cell, new', move', call', answer'}
 
 -- Requests on a state: what they come to, and the cells and places that there are more at the end.
 pub record Work : Type 0 where
@@ -30,7 +30,7 @@ AllWork (w ∷ ws) = Works w × AllWork ws
 
 -- ---- arguments: type 2 takes method 1 away, so that a cell of it has an adapter; the class takes an argument of type 1, type 2 one of type 3.
 abbrev pub passing : Table
-passing = sheetOf 2 2 (
+passing = sheet_of 2 2 (
     type (signed avail (1 ∷ []) none ∷ bare avail ∷ [])
     ∷ type (bare denied ∷ bare avail ∷ [])
     ∷ type (signed avail (3 ∷ []) none ∷ bare unavail ∷ [])
@@ -38,8 +38,8 @@ passing = sheetOf 2 2 (
     ∷ [])
 
 -- ---- answers: as `twice`, every type answering method 0 with a reference
-abbrev answeringTwice : Table
-answeringTwice = sheetOf 2 3 (
+abbrev answering_twice : Table
+answering_twice = sheet_of 2 3 (
     type (signed avail [] (some 0) ∷ bare avail ∷ bare avail ∷ [])
     ∷ type (signed avail [] (some 0) ∷ bare unavail ∷ bare avail ∷ [])
     ∷ type (signed avail [] (some 4) ∷ bare denied ∷ bare denied ∷ [])
@@ -60,7 +60,7 @@ references =
     }
     -- An answer through two adapters (A7, A8, A10): the caller holds the new cell, by the type that is due.
     ∷ record {
-      state = loaded answeringTwice;
+      state = loaded answering_twice;
       requests = new' 0 0 1 ∷ move' 0 0 1 2 ∷ move' 1 1 1 3 ∷ call' 1 2 0 [] ∷ new' 0 0 0 ∷ answer' 0 0 (some (pos 3)) ∷ [];
       gives = got (pair 0 1) ∷ got (pair 1 2) ∷ got (pair 2 2) ∷ got (pair 0 2) ∷ got (pair 3 3) ∷ got (pair 4 4) ∷ [];
       cells = cell 0 1 1 ∷ cell 1 2 2 ∷ cell 1 3 2 ∷ cell 0 0 3 ∷ cell 1 4 4 ∷ [];

@@ -5,25 +5,25 @@ use mathlib.Core.Option.{Option, none, some}
 use Prim.Native.Nat.{ℕ, zero, suc}
 use lib.ListN.{length}
 use Rattle.spec_model.specs.Table.{Table, size}
-use Rattle.spec_model.specs.Check.{RawTable, noRawLinks, answer_of}
-use Rattle.spec_model.specs.Records.{answerCode, typeRecord, linksRecord}
+use Rattle.spec_model.specs.Check.{RawTable, no_raw_links, answer_of}
+use Rattle.spec_model.specs.Records.{answer_code, type_record, links_record}
 
 -- the whole table; category 0 names none
-abbrev pub rawTableOf : Table → RawTable
-rawTableOf t = record {
+abbrev pub raw_table_of : Table → RawTable
+raw_table_of t = record {
   subjects = t.subjects;
   methods = t.methods;
   cats = length t.cats;
   sheet = t.sheet;
   types = size t;
-  links = noRawLinks ∷ map linksRecord t.cats;
-  records = map typeRecord t.types;
+  links = no_raw_links ∷ map links_record t.cats;
+  records = map type_record t.types;
 }
 
-pub answer_back : (a : Option ℕ) → answer_of (answerCode a) ≡ a
+pub answer_back : (a : Option ℕ) → answer_of (answer_code a) ≡ a
 answer_back none = refl
 answer_back (some a) = refl
 
-pub code-back : (n : ℕ) → answerCode (answer_of n) ≡ n
+pub code-back : (n : ℕ) → answer_code (answer_of n) ≡ n
 code-back zero = refl
 code-back (suc n) = refl

@@ -8,8 +8,8 @@ use Prim.Native.Nat.{ℕ, suc, ◌≤◌, ◌<◌}
 use native.Mathlib.Omega.{arith}
 use lib.ListN.{get_or}
 use Rattle.spec_model.specs.Basics.{AllBelow}
-use Rattle.spec_model.specs.Table.{Ty, Table, noMethod, size, type_at, methodAt, maxCategories}
-use Rattle.spec_model.specs.Relations.{ArgsBy, AnswerBy, Relation, subtype, conforms, strict, loose, free, catLe, outerRule, related, reaches, Keeps}
+use Rattle.spec_model.specs.Table.{Ty, Table, no_method, size, type_at, method_at, max_categories}
+use Rattle.spec_model.specs.Relations.{ArgsBy, AnswerBy, Relation, subtype, conforms, strict, loose, free, cat_le, outer_rule, related, reaches, Keeps}
 use Rattle.spec_model.specs.Chains.{permits, Permits}
 use Rattle.spec_model.proofs.Rules.{so-both}
 use Rattle.spec_model.proofs.Largest.{largest, keeps-related}
@@ -38,15 +38,15 @@ grown-trans {t} {u} {v} e f = record {
 }
 
 module _ (t u : Table) (x : Grown t u) where
-  pub method-same : (i m : ℕ) → i < size t → methodAt u i m ≡ methodAt t i m
-  method-same i m l = ap (λ y. get_or y.methods m noMethod) (x.same i l)
+  pub method-same : (i m : ℕ) → i < size t → method_at u i m ≡ method_at t i m
+  method-same i m l = ap (λ y. get_or y.methods m no_method) (x.same i l)
 
-  cats-same : (a b : ℕ) → catLe u a b ≡ catLe t a b
-  unfolding catLe
-  cats-same a b = ap (λ (cs : List (List ℕ)). reaches (suc maxCategories) ([] ∷ cs) a b) x.cats
+  cats-same : (a b : ℕ) → cat_le u a b ≡ cat_le t a b
+  unfolding cat_le
+  cats-same a b = ap (λ (cs : List (List ℕ)). reaches (suc max_categories) ([] ∷ cs) a b) x.cats
 
-  pub outer_same : (k : Relation) (a b : Ty) → outerRule k u a b ≡ outerRule k t a b
-  unfolding outerRule
+  pub outer_same : (k : Relation) (a b : Ty) → outer_rule k u a b ≡ outer_rule k t a b
+  unfolding outer_rule
   outer_same subtype a b = rw (cats-same a.cat b.cat)
   outer_same conforms a b = rw (cats-same a.cat b.cat)
   outer_same strict a b = rw (cats-same a.cat b.cat)
@@ -76,7 +76,7 @@ module _ (t u : Table) (x : Grown t u) where
   unfolding permits
   permits-grow s [] n l = rw (x.same n l) (λ p. p, λ p. p)
   permits-grow s (m ∷ w) n l =
-      let g = onward-grow w (permits-grow s w) (methodAt t n m).answer (s n m).1 in (
+      let g = onward-grow w (permits-grow s w) (method_at t n m).answer (s n m).1 in (
         (λ p. let q = step t n m w p in steps u n m w (record { sort = rw (x.same n l) q.sort; here = rw (method-same n m l) q.here; next = rw (method-same n m l) (g.0 q.next) })),
         λ p. let q = step u n m w p in steps t n m w (record { sort = rw (x.same n l) at q.sort; here = rw (method-same n m l) at q.here; next = g.1 (rw (method-same n m l) at q.next) }),
       )
@@ -114,8 +114,8 @@ module _ (t u : Table) (x : Grown t u) (sigs : SignaturesIn t) where
                   state = e.state;
                   signature = λ c d. let s = e.signature c d in
                       record {
-                        args = args-both (size t) (λ a b i j h. (i, j, h)) (methodAt t a m).args (methodAt t b m).args (sigs a m).0 (sigs b m).0 s.args;
-                        answer = ans-both (size t) (λ a b i j h. (i, j, h)) (methodAt t a m).answer (methodAt t b m).answer (sigs a m).1 (sigs b m).1 s.answer;
+                        args = args-both (size t) (λ a b i j h. (i, j, h)) (method_at t a m).args (method_at t b m).args (sigs a m).0 (sigs b m).0 s.args;
+                        answer = ans-both (size t) (λ a b i j h. (i, j, h)) (method_at t a m).answer (method_at t b m).answer (sigs a m).1 (sigs b m).1 s.answer;
                       };
                 };
           }

@@ -11,26 +11,26 @@ use lib.Dec.{eqb}
 use lib.ListN.{get_or}
 use Rattle.spec_model.specs.Basics.{from}
 use Rattle.spec_model.specs.Table.{Table, size}
-use Rattle.spec_model.specs.Relations.{Relation, Largest, rule, Square, square, look, bit, yeses, round, rounds, allPairs, related, Keeps, count}
+use Rattle.spec_model.specs.Relations.{Relation, Largest, rule, Square, square, look, bit, yeses, round, rounds, all_pairs, related, Keeps, count}
 use Rattle.spec_model.proofs.Tests.{eqb-so, eqb_no}
 use Rattle.spec_model.proofs.Rules.{so-both, first, second, never, both, rule-test, rule-says}
 
 module _ {A : Type 0} (f : ℕ → A) (d : A) where
-  pub getD-from : (c i j : ℕ) → j < c → get_or (from c i f) j d ≡ f (i + j)
+  pub get_or-from : (c i j : ℕ) → j < c → get_or (from c i f) j d ≡ f (i + j)
   unfolding from
-  getD-from zero i j h = absurd (not-suc-le-zero h)
-  getD-from (suc c) i zero h = ap f (sym (add-zero i))
-  getD-from (suc c) i (suc j) h = getD-from c (suc i) j (le_of_suc-le-suc h) ∙ ap f (omega arith)
+  get_or-from zero i j h = absurd (not-suc-le-zero h)
+  get_or-from (suc c) i zero h = ap f (sym (add-zero i))
+  get_or-from (suc c) i (suc j) h = get_or-from c (suc i) j (le_of_suc-le-suc h) ∙ ap f (omega arith)
 
-  pub getD-from-out : (c i j : ℕ) → c ≤ j → get_or (from c i f) j d ≡ d
+  pub get_or-from-out : (c i j : ℕ) → c ≤ j → get_or (from c i f) j d ≡ d
   unfolding from
-  getD-from-out zero i j h = refl
-  getD-from-out (suc c) i zero h = absurd (not-suc-le-zero h)
-  getD-from-out (suc c) i (suc j) h = getD-from-out c (suc i) j (le_of_suc-le-suc h)
+  get_or-from-out zero i j h = refl
+  get_or-from-out (suc c) i zero h = absurd (not-suc-le-zero h)
+  get_or-from-out (suc c) i (suc j) h = get_or-from-out c (suc i) j (le_of_suc-le-suc h)
 
 pub look-square : (n : ℕ) (f : ℕ → ℕ → Bool) (a b : ℕ) → a < n → b < n → look (square n f) a b ≡ f a b
 unfolding square
-look-square n f a b p q = rw (getD-from (λ x. from n 0 (λ y. f x y)) [] n 0 a p, getD-from (λ y. f (0 + a) y) false n 0 b q, zero-add, zero-add)
+look-square n f a b p q = rw (get_or-from (λ x. from n 0 (λ y. f x y)) [] n 0 a p, get_or-from (λ y. f (0 + a) y) false n 0 b q, zero-add, zero-add)
 
 pub look_in : (n : ℕ) (f : ℕ → ℕ → Bool) (a b : ℕ) → So (look (square n f) a b) → (a < n) × (b < n)
 unfolding square
@@ -38,22 +38,22 @@ look_in n f a b h = go (dec_lt a n) (dec_lt b n)
   where
     go : Dec (a < n) → Dec (b < n) → (a < n) × (b < n)
     go (yes p) (yes q) = (p, q)
-    go (yes p) (no q) = never (rw (getD-from (λ x. from n 0 (λ y. f x y)) [] n 0 a p, getD-from-out (λ y. f (0 + a) y) false n 0 b (omega arith)) at h)
-    go (no p) q = never (rw (getD-from-out (λ x. from n 0 (λ y. f x y)) [] n 0 a (omega arith)) at h)
+    go (yes p) (no q) = never (rw (get_or-from (λ x. from n 0 (λ y. f x y)) [] n 0 a p, get_or-from-out (λ y. f (0 + a) y) false n 0 b (omega arith)) at h)
+    go (no p) q = never (rw (get_or-from-out (λ x. from n 0 (λ y. f x y)) [] n 0 a (omega arith)) at h)
 
 -- Counting
-sumF : ℕ → ℕ → (ℕ → ℕ) → ℕ
-sumF zero i f = 0
-sumF (suc c) i f = f i + sumF c (suc i) f
+sum_f : ℕ → ℕ → (ℕ → ℕ) → ℕ
+sum_f zero i f = 0
+sum_f (suc c) i f = f i + sum_f c (suc i) f
 
 module _ (f g : ℕ → ℕ) where
-  sum-le : (c i : ℕ) → ((j : ℕ) → i ≤ j → j < i + c → f j ≤ g j) → sumF c i f ≤ sumF c i g
-  unfolding sumF
+  sum-le : (c i : ℕ) → ((j : ℕ) → i ≤ j → j < i + c → f j ≤ g j) → sum_f c i f ≤ sum_f c i g
+  unfolding sum_f
   sum-le zero i h = omega arith
   sum-le (suc c) i h = let p = sum-le c (suc i) (λ j l u. h j (omega arith) (omega arith)) in let q = h i (omega arith) (omega arith) in omega arith
 
-  sum-eq : (c i : ℕ) → ((j : ℕ) → i ≤ j → j < i + c → f j ≤ g j) → sumF c i f ≡ sumF c i g → (j : ℕ) → i ≤ j → j < i + c → f j ≡ g j
-  unfolding sumF
+  sum-eq : (c i : ℕ) → ((j : ℕ) → i ≤ j → j < i + c → f j ≤ g j) → sum_f c i f ≡ sum_f c i g → (j : ℕ) → i ≤ j → j < i + c → f j ≡ g j
+  unfolding sum_f
   sum-eq zero i h e j l u = absurd (omega arith)
   sum-eq (suc c) i h e j l u =
       let h' : (j : ℕ) → suc i ≤ j → j < suc i + c → f j ≤ g j = λ j l u. h j (omega arith) (omega arith) in
@@ -75,20 +75,20 @@ bit-eq true q e h = refl
 bit-eq false true e h = absurd (omega arith)
 bit-eq false false e h = h
 
-yeses-from : (f : ℕ → Bool) (c i : ℕ) → yeses (from c i f) ≡ sumF c i (λ j. bit (f j))
-unfolding yeses from sumF
+yeses-from : (f : ℕ → Bool) (c i : ℕ) → yeses (from c i f) ≡ sum_f c i (λ j. bit (f j))
+unfolding yeses from sum_f
 yeses-from f zero i = refl
 yeses-from f (suc c) i = ap (λ x. bit (f i) + x) (yeses-from f c (suc i))
 
--- the ofNumber of related pairs below n
+-- the of_number of related pairs below n
 row : ℕ → (ℕ → Bool) → ℕ
-row n f = sumF n 0 (λ b. bit (f b))
+row n f = sum_f n 0 (λ b. bit (f b))
 
 total : ℕ → (ℕ → ℕ → Bool) → ℕ
-total n f = sumF n 0 (λ a. row n (f a))
+total n f = sum_f n 0 (λ a. row n (f a))
 
-count-from : (f : ℕ → ℕ → Bool) (n c i : ℕ) → count (from c i (λ a. from n 0 (λ b. f a b))) ≡ sumF c i (λ a. row n (f a))
-unfolding count from sumF row
+count-from : (f : ℕ → ℕ → Bool) (n c i : ℕ) → count (from c i (λ a. from n 0 (λ b. f a b))) ≡ sum_f c i (λ a. row n (f a))
+unfolding count from sum_f row
 count-from f n zero i = refl
 count-from f n (suc c) i = rw (yeses-from (f i) n 0, count-from f n c (suc i))
 
@@ -111,8 +111,8 @@ module _ (n : ℕ) (f g : ℕ → ℕ → Bool) (le : (a b : ℕ) → a < n → 
       let e₁ : row n (f a) ≡ row n (g a) = sum-eq (λ a. row n (f a)) (λ a. row n (g a)) n 0 (λ a l u. row-le a (omega arith)) e a (omega arith) (omega arith) in
       bit-eq (f a b) (g a b) (sum-eq (λ b. bit (f a b)) (λ b. bit (g a b)) n 0 (λ b l u. bit_le (f a b) (g a b) (le a b p (omega arith))) e₁ b (omega arith) (omega arith))
 
-sum_bound : (f : ℕ → ℕ) (d : ℕ) → ((j : ℕ) → f j ≤ d) → (c i : ℕ) → sumF c i f ≤ c * d
-unfolding sumF
+sum_bound : (f : ℕ → ℕ) (d : ℕ) → ((j : ℕ) → f j ≤ d) → (c i : ℕ) → sum_f c i f ≤ c * d
+unfolding sum_f
 sum_bound f d h zero i = omega arith
 sum_bound f d h (suc c) i = let p = sum_bound f d h c (suc i) in let q = h i in omega arith
 
@@ -157,15 +157,15 @@ module _ (k : Relation) (t : Table) where
 
     -- what keeps the rules lies within the computed relation
     pub largest : (a b : ℕ) → R a b → So (related k t a b)
-    unfolding related allPairs
-    largest = above (size t * size t) (allPairs t) λ a b r. let q = keeps a b r in look-square (size t) (λ a b. true) a b q.low q.high
+    unfolding related all_pairs
+    largest = above (size t * size t) (all_pairs t) λ a b r. let q = keeps a b r in look-square (size t) (λ a b. true) a b q.low q.high
 
   -- and the computed relation keeps them
   pub keeps-related : Keeps k t (λ a b. So (related k t a b))
-  unfolding related allPairs Done next
+  unfolding related all_pairs Done next
   keeps-related a b h =
-      let d : Done (rounds (size t * size t) k t (allPairs t)) = ends (size t * size t) (λ a b. true) (total-full (size t)) in
-      let g = rounds (size t * size t) k t (allPairs t) in
+      let d : Done (rounds (size t * size t) k t (all_pairs t)) = ends (size t * size t) (λ a b. true) (total-full (size t)) in
+      let g = rounds (size t * size t) k t (all_pairs t) in
       let f = d.0 in
       let h' : So (look (square (size t) f) a b) = rw d.1 at h in
       let i = look_in (size t) f a b h' in

@@ -10,7 +10,7 @@ use lib.Seq.{ext_get_or}
 use Rattle.spec_model.specs.Basics.{all, every, from}
 use Rattle.spec_model.specs.Check.{first_of}
 use Rattle.spec_model.proofs.Rules.{both}
-use Rattle.spec_model.proofs.Largest.{getD-from}
+use Rattle.spec_model.proofs.Largest.{get_or-from}
 
 module _ {A : Type 0} (f : ℕ → A) where
   pub length_from : (c i : ℕ) → length (from c i f) ≡ c
@@ -19,7 +19,7 @@ module _ {A : Type 0} (f : ℕ → A) where
   length_from (suc c) i = ap suc (length_from c (suc i))
 
   pub from_first : (c j : ℕ) (d : A) → j < c → get_or (from c 0 f) j d ≡ f j
-  from_first c j d h = getD-from f d c 0 j h ∙ ap f (zero-add j)
+  from_first c j d h = get_or-from f d c 0 j h ∙ ap f (zero-add j)
 
   -- a list is known by its elements
   pub is-from : (n : ℕ) (d : A) (l : List A) → length l ≡ n → ((i : ℕ) → i < n → get_or l i d ≡ f i) → from n 0 f ≡ l
@@ -52,10 +52,10 @@ map-from h f zero i = refl
 map-from h f (suc c) i = ap (λ xs. h (f i) ∷ xs) (map-from h f c (suc i))
 
 -- within its length a mapped list has the values, whatever is read past the end
-pub getD-map-in : {A B : Type 0} (f : A → B) (l : List A) (n : ℕ) (d : A) (e : B) → n < length l → get_or (map f l) n e ≡ f (get_or l n d)
-getD-map-in f [] n d e h = absurd (not-suc-le-zero h)
-getD-map-in f (x ∷ xs) zero d e h = refl
-getD-map-in f (x ∷ xs) (suc n) d e h = getD-map-in f xs n d e (le_of_suc-le-suc h)
+pub get_or-map-in : {A B : Type 0} (f : A → B) (l : List A) (n : ℕ) (d : A) (e : B) → n < length l → get_or (map f l) n e ≡ f (get_or l n d)
+get_or-map-in f [] n d e h = absurd (not-suc-le-zero h)
+get_or-map-in f (x ∷ xs) zero d e h = refl
+get_or-map-in f (x ∷ xs) (suc n) d e h = get_or-map-in f xs n d e (le_of_suc-le-suc h)
 
 pub from-same : {A : Type 0} (f g : ℕ → A) (c i : ℕ) → ((j : ℕ) → i ≤ j → j < i + c → f j ≡ g j) → from c i f ≡ from c i g
 unfolding from

@@ -6,8 +6,8 @@ use mathlib.Core.Option.{Option, none, some}
 use Prim.Native.Nat.{ℕ, zero, suc, ◌<◌}
 use lib.ListN.{get_or}
 use Rattle.spec_model.specs.Basics.{◌⇒◌}
-use Rattle.spec_model.specs.Table.{Method, Table, noMethod, size, type_at, methodAt, permit}
-use Rattle.spec_model.specs.Relations.{Relation, subtype, conforms, strict, loose, free, outerRule, stateRule, argsRule, answerRule, methodRule, everyMethod, rule, ArgsBy, AnswerBy}
+use Rattle.spec_model.specs.Table.{Method, Table, no_method, size, type_at, method_at, permit}
+use Rattle.spec_model.specs.Relations.{Relation, subtype, conforms, strict, loose, free, outer_rule, state_rule, args_rule, answer_rule, method_rule, every_method, rule, ArgsBy, AnswerBy}
 use Rattle.spec_model.specs.Relations.{SignatureBy, MethodBy, Rule}
 
 pub never : {A : Type 0} → So false → A
@@ -60,65 +60,65 @@ module _ (M : ℕ → ℕ → Bool) where
   abbrev pub Yes : ℕ → ℕ → Type 0
   Yes a b = So (M a b)
 
-  pub args-test : (xs ys : List ℕ) → ArgsBy Yes xs ys → So (argsRule M xs ys)
+  pub args-test : (xs ys : List ℕ) → ArgsBy Yes xs ys → So (args_rule M xs ys)
   args-test [] [] h = refl
   args-test [] (y ∷ ys) h = absurd h
   args-test (x ∷ xs) [] h = absurd h
   args-test (x ∷ xs) (y ∷ ys) h = both h.0 (args-test xs ys h.1)
 
-  pub args-says : (xs ys : List ℕ) → So (argsRule M xs ys) → ArgsBy Yes xs ys
+  pub args-says : (xs ys : List ℕ) → So (args_rule M xs ys) → ArgsBy Yes xs ys
   args-says [] [] h = tt
   args-says [] (y ∷ ys) h = never h
   args-says (x ∷ xs) [] h = never h
   args-says (x ∷ xs) (y ∷ ys) h = (first (M y x) _ h, args-says xs ys (second (M y x) _ h))
 
-  pub answer-test : (x y : Option ℕ) → AnswerBy Yes x y → So (answerRule M x y)
+  pub answer-test : (x y : Option ℕ) → AnswerBy Yes x y → So (answer_rule M x y)
   answer-test none none h = refl
   answer-test none (some y) h = absurd h
   answer-test (some x) none h = absurd h
   answer-test (some x) (some y) h = h
 
-  pub answer-says : (x y : Option ℕ) → So (answerRule M x y) → AnswerBy Yes x y
+  pub answer-says : (x y : Option ℕ) → So (answer_rule M x y) → AnswerBy Yes x y
   answer-says none none h = tt
   answer-says none (some y) h = never h
   answer-says (some x) none h = never h
   answer-says (some x) (some y) h = h
 
   module _ (k : Relation) where
-    pub method-test : (x y : Method) → MethodBy k Yes x y → So (methodRule k M x y)
-    unfolding methodRule
+    pub method-test : (x y : Method) → MethodBy k Yes x y → So (method_rule k M x y)
+    unfolding method_rule
     method-test x y h = both h.state (imply (permit x.state && permit y.state) _ λ p.
         let s = h.signature (first (permit x.state) _ p) (second (permit x.state) _ p) in both (args-test x.args y.args s.args) (answer-test x.answer y.answer s.answer))
 
-    pub method-says : (x y : Method) → So (methodRule k M x y) → MethodBy k Yes x y
-    unfolding methodRule
+    pub method-says : (x y : Method) → So (method_rule k M x y) → MethodBy k Yes x y
+    unfolding method_rule
     method-says x y h = record {
-      state = first (stateRule k x.state y.state) _ h;
+      state = first (state_rule k x.state y.state) _ h;
       signature = λ p q.
-          let e = applied (second (stateRule k x.state y.state) _ h) (both p q) in
-          record { args = args-says x.args y.args (first (argsRule M x.args y.args) _ e); answer = answer-says x.answer y.answer (second (argsRule M x.args y.args) _ e) };
+          let e = applied (second (state_rule k x.state y.state) _ h) (both p q) in
+          record { args = args-says x.args y.args (first (args_rule M x.args y.args) _ e); answer = answer-says x.answer y.answer (second (args_rule M x.args y.args) _ e) };
     }
 
 module _ (f : Method → Method → Bool) where
-  pub all-test : (xs ys : List Method) → ((m : ℕ) → So (f (get_or xs m noMethod) (get_or ys m noMethod))) → So (everyMethod f xs ys)
-  unfolding everyMethod
+  pub all-test : (xs ys : List Method) → ((m : ℕ) → So (f (get_or xs m no_method) (get_or ys m no_method))) → So (every_method f xs ys)
+  unfolding every_method
   all-test [] [] h = refl
   all-test [] (y ∷ ys) h = both (h 0) (all-test [] ys (λ m. h (suc m)))
   all-test (x ∷ xs) [] h = both (h 0) (all-test xs [] (λ m. h (suc m)))
   all-test (x ∷ xs) (y ∷ ys) h = both (h 0) (all-test xs ys (λ m. h (suc m)))
 
-  pub all-says : So (f noMethod noMethod) → (xs ys : List Method) → So (everyMethod f xs ys) → (m : ℕ) → So (f (get_or xs m noMethod) (get_or ys m noMethod))
-  unfolding everyMethod
+  pub all-says : So (f no_method no_method) → (xs ys : List Method) → So (every_method f xs ys) → (m : ℕ) → So (f (get_or xs m no_method) (get_or ys m no_method))
+  unfolding every_method
   all-says z [] [] h m = z
-  all-says z [] (y ∷ ys) h zero = first (f noMethod y) _ h
-  all-says z [] (y ∷ ys) h (suc m) = all-says z [] ys (second (f noMethod y) _ h) m
-  all-says z (x ∷ xs) [] h zero = first (f x noMethod) _ h
-  all-says z (x ∷ xs) [] h (suc m) = all-says z xs [] (second (f x noMethod) _ h) m
+  all-says z [] (y ∷ ys) h zero = first (f no_method y) _ h
+  all-says z [] (y ∷ ys) h (suc m) = all-says z [] ys (second (f no_method y) _ h) m
+  all-says z (x ∷ xs) [] h zero = first (f x no_method) _ h
+  all-says z (x ∷ xs) [] h (suc m) = all-says z xs [] (second (f x no_method) _ h) m
   all-says z (x ∷ xs) (y ∷ ys) h zero = first (f x y) _ h
   all-says z (x ∷ xs) (y ∷ ys) h (suc m) = all-says z xs ys (second (f x y) _ h) m
 
-pub denied-fits : (k : Relation) (M : ℕ → ℕ → Bool) → So (methodRule k M noMethod noMethod)
-unfolding methodRule
+pub denied-fits : (k : Relation) (M : ℕ → ℕ → Bool) → So (method_rule k M no_method no_method)
+unfolding method_rule
 denied-fits subtype M = refl
 denied-fits conforms M = refl
 denied-fits strict M = refl
@@ -127,15 +127,15 @@ denied-fits free M = refl
 
 pub rule-test : (k : Relation) (t : Table) (R : ℕ → ℕ → Type 0) (M : ℕ → ℕ → Bool) → ((a b : ℕ) → R a b → So (M a b)) → (a b : ℕ) → Rule k t R a b → So (rule k t M a b)
 unfolding rule
-rule-test k t R M i a b h = both h.outer (all-test (methodRule k M) (type_at t a).methods (type_at t b).methods λ m. method-test M k (methodAt t a m) (methodAt t b m)
-    (record { state = (h.at m).state; signature = λ p q. signature-mono i (methodAt t a m) (methodAt t b m) ((h.at m).signature p q) }))
+rule-test k t R M i a b h = both h.outer (all-test (method_rule k M) (type_at t a).methods (type_at t b).methods λ m. method-test M k (method_at t a m) (method_at t b m)
+    (record { state = (h.at m).state; signature = λ p q. signature-mono i (method_at t a m) (method_at t b m) ((h.at m).signature p q) }))
 
 pub rule-says : (k : Relation) (t : Table) (M : ℕ → ℕ → Bool) (a b : ℕ) → a < size t → b < size t → So (rule k t M a b) → Rule k t (λ x y. So (M x y)) a b
 unfolding rule
 rule-says k t M a b l u h = record {
   low = l;
   high = u;
-  outer = first (outerRule k t (type_at t a) (type_at t b)) _ h;
-  at = λ m. method-says M k (methodAt t a m) (methodAt t b m)
-      (all-says (methodRule k M) (denied-fits k M) (type_at t a).methods (type_at t b).methods (second (outerRule k t (type_at t a) (type_at t b)) _ h) m);
+  outer = first (outer_rule k t (type_at t a) (type_at t b)) _ h;
+  at = λ m. method-says M k (method_at t a m) (method_at t b m)
+      (all-says (method_rule k M) (denied-fits k M) (type_at t a).methods (type_at t b).methods (second (outer_rule k t (type_at t a) (type_at t b)) _ h) m);
 }

@@ -9,11 +9,11 @@ each P h optional = first (P optional) _ (second (P denied) _ h)
 each P h avail = first (P avail) _ (second (P optional) _ (second (P denied) _ h))
 each P h unavail = second (P avail) _ (second (P optional) _ (second (P denied) _ h))
 
-abbrev pub eachB : (State → Bool) → Bool
-eachB P = P denied && (P optional && (P avail && P unavail))
+abbrev pub each_b : (State → Bool) → Bool
+each_b P = P denied && (P optional && (P avail && P unavail))
 
-pub each₂ : (P : State → State → Bool) → So (eachB λ a. eachB λ b. P a b) → (a b : State) → So (P a b)
-each₂ P h a = each (P a) (each (λ a. eachB (P a)) h a)
+pub each₂ : (P : State → State → Bool) → So (each_b λ a. each_b λ b. P a b) → (a b : State) → So (P a b)
+each₂ P h a = each (P a) (each (λ a. each_b (P a)) h a)
 
-pub each₃ : (P : State → State → State → Bool) → So (eachB λ a. eachB λ b. eachB λ c. P a b c) → (a b c : State) → So (P a b c)
-each₃ P h a = each₂ (P a) (each (λ a. eachB λ b. eachB λ c. P a b c) h a)
+pub each₃ : (P : State → State → State → Bool) → So (each_b λ a. each_b λ b. each_b λ c. P a b c) → (a b c : State) → So (P a b c)
+each₃ P h a = each₂ (P a) (each (λ a. each_b λ b. each_b λ c. P a b c) h a)

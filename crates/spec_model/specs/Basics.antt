@@ -49,9 +49,9 @@ abbrev pub over : Option ℕ → (ℕ → Bool) → Bool
 over none f = false
 over (some x) f = f x
 
-abbrev pub unlessMissing : Option ℕ → (ℕ → Bool) → Bool
-unlessMissing none f = true
-unlessMissing (some x) f = f x
+abbrev pub unless_missing : Option ℕ → (ℕ → Bool) → Bool
+unless_missing none f = true
+unless_missing (some x) f = f x
 
 -- f i, f (i + 1), ..: c values
 unfoldable pub from {ℓ} : {A : Type ℓ} → ℕ → ℕ → (ℕ → A) → List A

@@ -3,7 +3,7 @@
 use Rattle.std.specs.Prelude.{true, false, List, [], ◌∷◌, ◌++◌, map, reverse, ℕ, suc, ℤ, get_or}
 use Rattle.std.proofs.Math.Option.{Option, none, some}
 use Rattle.spec_model.specs.Basics.{named}
-use Rattle.spec_model.specs.Table.{sub, closed, Table, maxTypes, type_at, methodAt, argumentAt, answerAt, isRef}
+use Rattle.spec_model.specs.Table.{sub, closed, Table, max_types, type_at, method_at, argument_at, answer_at, is_ref}
 use Rattle.spec_model.specs.Relations.{subtype, conforms, related}
 use Rattle.spec_model.specs.Restriction.{derive}
 use Rattle.spec_model.specs.Requests.{Request, new, move, call, answer}
@@ -34,97 +34,97 @@ last_or [] c = c
 last_or (x ∷ xs) c = x
 
 -- what S and V are for a page: the latest entry of its list, and the class before there is one (L4)
-abbrev pub lastType : Page → ℕ
-lastType g = last_or g.trail g.class
+abbrev pub last_type : Page → ℕ
+last_type g = last_or g.trail g.class
 
-abbrev pub lastClosed : Page → ℕ
-lastClosed g = last_or g.closed g.class
+abbrev pub last_closed : Page → ℕ
+last_closed g = last_or g.closed g.class
 
-abbrev pub emptyPage : ℕ → Page
-emptyPage c = record { class = c; closed = []; trail = [] }
+abbrev pub empty_page : ℕ → Page
+empty_page c = record { class = c; closed = []; trail = [] }
 
 -- the end of every crossing of a page (L8)
 abbrev pub joins : ℕ → Page → Page
 joins to g = record { class = g.class; closed = g.closed; trail = to ∷ g.trail }
 
-abbrev pub addClosed : ℕ → Page → Page
-addClosed c g = record { class = g.class; closed = c ∷ g.closed; trail = g.trail }
+abbrev pub add_closed : ℕ → Page → Page
+add_closed c g = record { class = g.class; closed = c ∷ g.closed; trail = g.trail }
 
 -- L7. The request was taken, so a derivation never fails here.
-unfoldable pub pageAdapt : Table → Page → ℕ → ℕ → Table × Page
+unfoldable pub page_adapt : Table → Page → ℕ → ℕ → Table × Page
 unfolding related derive
-pageAdapt t g to r = elim (related conforms t r (lastClosed g)) [
+page_adapt t g to r = elim (related conforms t r (last_closed g)) [
   | true ↦ (t, joins to g)
-  | false ↦ elim (derive maxTypes t closed r (lastClosed g)) [ none ↦ (t, g) | some x ↦ (x.0, joins to (addClosed x.1 g)) ]
+  | false ↦ elim (derive max_types t closed r (last_closed g)) [ none ↦ (t, g) | some x ↦ (x.0, joins to (add_closed x.1 g)) ]
 ]
 
 -- L5 and L6: the crossing of X, without its tests. After unwrapping the page is as good as new.
-unfoldable pub pageCross : Table → Page → ℕ → Table × Page
-unfolding related derive pageAdapt
-pageCross t g to = elim (type_at t to).own_val [
-  | true ↦ pageAdapt t (emptyPage g.class) to to
-  | false ↦ elim (related subtype t to (lastType g)) [
+unfoldable pub page_cross : Table → Page → ℕ → Table × Page
+unfolding related derive page_adapt
+page_cross t g to = elim (type_at t to).own [
+  | true ↦ page_adapt t (empty_page g.class) to to
+  | false ↦ elim (related subtype t to (last_type g)) [
     | true ↦ (t, joins to g)
-    | false ↦ elim (derive maxTypes t sub to (lastType g)) [ none ↦ (t, g) | some x ↦ pageAdapt x.0 g to x.1 ]
+    | false ↦ elim (derive max_types t sub to (last_type g)) [ none ↦ (t, g) | some x ↦ page_adapt x.0 g to x.1 ]
   ]
 ]
 
 -- a page crosses to each type in turn
-unfoldable pub pageCrossAll : Table → Page → List (Option ℕ) → Table × Page
-unfolding pageCross
-pageCrossAll t g [] = (t, g)
-pageCrossAll t g (none ∷ ts) = (t, g)
-pageCrossAll t g (some to ∷ ts) = let x = pageCross t g to in pageCrossAll x.0 x.1 ts
+unfoldable pub page_cross_all : Table → Page → List (Option ℕ) → Table × Page
+unfolding page_cross
+page_cross_all t g [] = (t, g)
+page_cross_all t g (none ∷ ts) = (t, g)
+page_cross_all t g (some to ∷ ts) = let x = page_cross t g to in page_cross_all x.0 x.1 ts
 
-abbrev pub pageAt : Book → ℕ → Page
-pageAt b k = get_or b.pages k (emptyPage 0)
+abbrev pub page_at : Book → ℕ → Page
+page_at b k = get_or b.pages k (empty_page 0)
 
 -- L14
-abbrev pub addPage : Book → Table × Page → Book
-addPage b x = record { table = x.0; pages = b.pages ++ (x.1 ∷ []); calls = b.calls }
+abbrev pub add_page : Book → Table × Page → Book
+add_page b x = record { table = x.0; pages = b.pages ++ (x.1 ∷ []); calls = b.calls }
 
 -- what a value meets on its way, by the page: as the layers of a call (L11)
-abbrev pub pageLayers : Page → List ℕ
-pageLayers g = lastType g ∷ (g.closed ++ (g.class ∷ []))
+abbrev pub page_layers : Page → List ℕ
+page_layers g = last_type g ∷ (g.closed ++ (g.class ∷ []))
 
 -- page k, copied, crosses to the types
-unfoldable pub copyPage : Book → ℕ → List (Option ℕ) → Book
-unfolding pageCrossAll
-copyPage b k ts = addPage b (pageCrossAll b.table (pageAt b k) ts)
+unfoldable pub copy_page : Book → ℕ → List (Option ℕ) → Book
+unfolding page_cross_all
+copy_page b k ts = add_page b (page_cross_all b.table (page_at b k) ts)
 
 -- L11: argument i and those after it; a number leaves no page
-unfoldable pub copyArguments : Book → List ℕ → ℕ → ℕ → List ℕ → List ℤ → Book
-unfolding copyPage
-copyArguments b ls m i [] vs = b
-copyArguments b ls m i (a ∷ xs) [] = b
-copyArguments b ls m i (a ∷ xs) (v ∷ vs) = elim (isRef (type_at b.table a).rep) [
-  | true ↦ copyArguments (copyPage b (named v) (map (argumentAt b.table m i) ls)) ls m (suc i) xs vs
-  | false ↦ copyArguments b ls m (suc i) xs vs
+unfoldable pub copy_arguments : Book → List ℕ → ℕ → ℕ → List ℕ → List ℤ → Book
+unfolding copy_page
+copy_arguments b ls m i [] vs = b
+copy_arguments b ls m i (a ∷ xs) [] = b
+copy_arguments b ls m i (a ∷ xs) (v ∷ vs) = elim (is_ref (type_at b.table a).rep) [
+  | true ↦ copy_arguments (copy_page b (named v) (map (argument_at b.table m i) ls)) ls m (suc i) xs vs
+  | false ↦ copy_arguments b ls m (suc i) xs vs
 ]
 
-abbrev pub addNote : Book → Note → Book
-addNote b n = record { table = b.table; pages = b.pages; calls = b.calls ++ (n ∷ []) }
+abbrev pub add_note : Book → Note → Book
+add_note b n = record { table = b.table; pages = b.pages; calls = b.calls ++ (n ∷ []) }
 
 -- L13: the same way outward
-unfoldable pub copyAnswer : Book → Note → Option ℕ → Option ℤ → Book
-unfolding copyPage
-copyAnswer b n none v = b
-copyAnswer b n (some a) none = b
-copyAnswer b n (some a) (some v) = elim (isRef (type_at b.table a).rep) [
-  | true ↦ copyPage b (named v) (reverse (map (answerAt b.table n.method) (pageLayers (pageAt b n.page))))
+unfoldable pub copy_answer : Book → Note → Option ℕ → Option ℤ → Book
+unfolding copy_page
+copy_answer b n none v = b
+copy_answer b n (some a) none = b
+copy_answer b n (some a) (some v) = elim (is_ref (type_at b.table a).rep) [
+  | true ↦ copy_page b (named v) (reverse (map (answer_at b.table n.method) (page_layers (page_at b n.page))))
   | false ↦ b
 ]
 
-abbrev pub noteAt : Book → ℕ → Note
-noteAt b j = get_or b.calls j (record { page = 0; method = 0 })
+abbrev pub note_at : Book → ℕ → Note
+note_at b j = get_or b.calls j (record { page = 0; method = 0 })
 
 -- An accepted request goes into the book (L9 to L13).
 unfoldable pub enter : Book → Request → Book
-unfolding pageCross copyPage copyArguments copyAnswer
+unfolding page_cross copy_page copy_arguments copy_answer
 -- L9
-enter b (new subject class to) = addPage b (pageCross b.table (emptyPage (named class)) (named to))
+enter b (new subject class to) = add_page b (page_cross b.table (empty_page (named class)) (named to))
 -- L10
-enter b (move subject k receiver to) = copyPage b (named k) (some (named to) ∷ [])
-enter b (call subject k m vs) = let g = pageAt b (named k) in
-    addNote (copyArguments b (pageLayers g) (named m) 0 (methodAt b.table (lastType g) (named m)).args vs) (record { page = named k; method = named m })
-enter b (answer subject j v) = let n = noteAt b (named j) in copyAnswer b n (answerAt b.table n.method (lastType (pageAt b n.page))) v
+enter b (move subject k receiver to) = copy_page b (named k) (some (named to) ∷ [])
+enter b (call subject k m vs) = let g = page_at b (named k) in
+    add_note (copy_arguments b (page_layers g) (named m) 0 (method_at b.table (last_type g) (named m)).args vs) (record { page = named k; method = named m })
+enter b (answer subject j v) = let n = note_at b (named j) in copy_answer b n (answer_at b.table n.method (last_type (page_at b n.page))) v

@@ -3,31 +3,31 @@
 use Rattle.std.specs.Prelude.{Bool, ◌&&◌, ◌||◌, cond, List, [], ◌∷◌, ℕ, zero, suc, eqb, ltb, leb, ℤ, length, get_or, take}
 use Rattle.std.proofs.Math.Option.{Option, none, some}
 use Rattle.spec_model.specs.Basics.{Res, need, ◌⇒◌, all, every, from}
-use Rattle.spec_model.specs.Table.{State, denied, optional, avail, unavail, Rep, ref, w32, w64, Kind, sub, sup, closed, Method, Ty, Table, size, type_at, isRef, permit, isClass}
-use Rattle.spec_model.specs.Table.{maxArguments, between, tableFits, signed, maxBroader}
+use Rattle.spec_model.specs.Table.{State, denied, optional, avail, unavail, Rep, ref, w32, w64, Kind, sub, sup, closed, Method, Ty, Table, size, type_at, is_ref, permit, is_class}
+use Rattle.spec_model.specs.Table.{max_arguments, between, table_fits, signed, max_broader}
 use Rattle.spec_model.specs.Relations.{Comparison, compare}
-use Rattle.spec_model.specs.Crossing.{Place, object, adapter, maxPlaces}
-use Rattle.spec_model.specs.Requests.{Cell, Call, System, maxCells, maxCallsEach, maxCalls, madeBy, noCell}
-use Rattle.spec_model.specs.Refusals.{outOfRange}
+use Rattle.spec_model.specs.Crossing.{Place, object, adapter, max_places}
+use Rattle.spec_model.specs.Requests.{Cell, Call, System, max_cells, max_calls_each, max_calls, made_by, no_cell}
+use Rattle.spec_model.specs.Refusals.{out_of_range}
 
 -- A state: every number names something, what cells, objects and adapters must be besides, and nobody made too many calls (H9 to H11, H17).
-abbrev pub cellFits : System → Cell → Bool
-cellFits s c = ltb c.holder s.table.subjects && (ltb c.place (length s.places) && (ltb c.type s.table.sheet && isRef (type_at s.table c.type).rep))
+abbrev pub cell_fits : System → Cell → Bool
+cell_fits s c = ltb c.holder s.table.subjects && (ltb c.place (length s.places) && (ltb c.type s.table.sheet && is_ref (type_at s.table c.type).rep))
 
-abbrev pub placeFits : System → ℕ → Place → Bool
-placeFits s p (object c o) = ltb o s.table.subjects && (ltb c s.table.sheet && isClass (type_at s.table c))
-placeFits s p (adapter b c) = ltb b p && (ltb c (size s.table) && isRef (type_at s.table c).rep)
+abbrev pub place_fits : System → ℕ → Place → Bool
+place_fits s p (object c o) = ltb o s.table.subjects && (ltb c s.table.sheet && is_class (type_at s.table c))
+place_fits s p (adapter b c) = ltb b p && (ltb c (size s.table) && is_ref (type_at s.table c).rep)
 
-abbrev pub callFits : System → Call → Bool
-callFits s c = ltb c.caller s.table.subjects && (ltb c.cell (length s.cells) && ltb c.method s.table.methods)
+abbrev pub call_fits : System → Call → Bool
+call_fits s c = ltb c.caller s.table.subjects && (ltb c.cell (length s.cells) && ltb c.method s.table.methods)
 
-abbrev pub callersFit : ℕ → List Call → Bool
-callersFit subjects calls = all (λ k. leb (madeBy k calls) maxCallsEach) (from subjects 0 (λ k. k))
+abbrev pub callers_fit : ℕ → List Call → Bool
+callers_fit subjects calls = all (λ k. leb (made_by k calls) max_calls_each) (from subjects 0 (λ k. k))
 
-unfoldable pub systemFits : System → Bool
-unfolding tableFits
-systemFits s = tableFits s.table && (leb (length s.cells) maxCells && (leb (length s.places) maxPlaces && (leb (length s.calls) maxCalls
-    && (all (cellFits s) s.cells && (every (placeFits s) 0 s.places && (all (callFits s) s.calls && callersFit s.table.subjects s.calls))))))
+unfoldable pub system_fits : System → Bool
+unfolding table_fits
+system_fits s = table_fits s.table && (leb (length s.cells) max_cells && (leb (length s.places) max_places && (leb (length s.calls) max_calls
+    && (all (cell_fits s) s.cells && (every (place_fits s) 0 s.places && (all (call_fits s) s.calls && callers_fit s.table.subjects s.calls))))))
 
 -- The records as they are handed in. A method's `answer` is 0 for none, else the type's number plus 1.
 pub record RawMethod : Type 0 where
@@ -61,8 +61,8 @@ pub record RawTable : Type 0 where
   pub records : List RawType
 
 -- the table with so many types, and these records
-abbrev pub withRecords : RawTable → ℕ → List RawLinks → List RawType → RawTable
-withRecords r n ls xs = record { subjects = r.subjects; methods = r.methods; cats = r.cats; sheet = r.sheet; types = n; links = ls; records = xs }
+abbrev pub with_records : RawTable → ℕ → List RawLinks → List RawType → RawTable
+with_records r n ls xs = record { subjects = r.subjects; methods = r.methods; cats = r.cats; sheet = r.sheet; types = n; links = ls; records = xs }
 
 -- A place: code 0 is an object (class, owner), 1 an adapter (the place behind, closed type).
 pub record RawPlace : Type 0 where
@@ -83,9 +83,9 @@ pub record RawSystem : Type 0 where
   pub cells : ℕ
   pub places : ℕ
   pub calls : ℕ
-  pub cellRecords : List Cell
-  pub placeRecords : List RawPlace
-  pub callRecords : List RawCall
+  pub cell_records : List Cell
+  pub place_records : List RawPlace
+  pub call_records : List RawCall
 
 -- What codes mean. A code that names nothing is read as one that does; the check refuses it.
 abbrev pub state_of : ℕ → State
@@ -94,10 +94,10 @@ state_of (suc zero) = optional
 state_of (suc (suc zero)) = avail
 state_of (suc (suc (suc n))) = unavail
 
-abbrev pub repOf : ℕ → Rep
-repOf zero = ref
-repOf (suc zero) = w32
-repOf (suc (suc n)) = w64
+abbrev pub rep_of : ℕ → Rep
+rep_of zero = ref
+rep_of (suc zero) = w32
+rep_of (suc (suc n)) = w64
 
 abbrev pub kind_of : ℕ → Kind
 kind_of zero = sub
@@ -108,47 +108,47 @@ abbrev pub answer_of : ℕ → Option ℕ
 answer_of zero = none
 answer_of (suc n) = some n
 
-abbrev pub noRawMethod : RawMethod
-noRawMethod = record { state = 0; count = 0; args = []; answer = 0 }
+abbrev pub no_raw_method : RawMethod
+no_raw_method = record { state = 0; count = 0; args = []; answer = 0 }
 
-abbrev pub noRawType : RawType
-noRawType = record { rep = 0; cat = 0; own_val = 0; kind = 0; left = 0; right = 0; methods = [] }
+abbrev pub no_raw_type : RawType
+no_raw_type = record { rep = 0; cat = 0; own = 0; kind = 0; left = 0; right = 0; methods = [] }
 
-abbrev pub noRawLinks : RawLinks
-noRawLinks = record { count = 0; first = 0; second = 0 }
+abbrev pub no_raw_links : RawLinks
+no_raw_links = record { count = 0; first = 0; second = 0 }
 
-abbrev pub noRawPlace : RawPlace
-noRawPlace = record { code = 0; first = 0; second = 0 }
+abbrev pub no_raw_place : RawPlace
+no_raw_place = record { code = 0; first = 0; second = 0 }
 
-abbrev pub noRawCall : RawCall
-noRawCall = record { caller = 0; cell = 0; method = 0; answered = 0 }
+abbrev pub no_raw_call : RawCall
+no_raw_call = record { caller = 0; cell = 0; method = 0; answered = 0 }
 
 -- a method that isn't permitted has no signature, whatever its record holds
-abbrev pub methodOf : RawMethod → Method
-methodOf m = let s = state_of m.state in signed s (cond (permit s) (take m.count m.args) []) (cond (permit s) (answer_of m.answer) none)
+abbrev pub method_of : RawMethod → Method
+method_of m = let s = state_of m.state in signed s (cond (permit s) (take m.count m.args) []) (cond (permit s) (answer_of m.answer) none)
 
 -- a number type has no methods and own=no, whatever its record holds; only the types after the sheet's have a key
 abbrev pub type_of : ℕ → ℕ → ℕ → RawType → Ty
 type_of methods sheet i x = record {
-  rep = repOf x.rep;
+  rep = rep_of x.rep;
   cat = x.cat;
-  own_val = isRef (repOf x.rep) && eqb x.own 1;
-  methods = cond (isRef (repOf x.rep)) (from methods 0 (λ j. methodOf (get_or x.methods j noRawMethod))) [];
+  own = is_ref (rep_of x.rep) && eqb x.own 1;
+  methods = cond (is_ref (rep_of x.rep)) (from methods 0 (λ j. method_of (get_or x.methods j no_raw_method))) [];
   key = cond (ltb i sheet) none (some (record { kind = kind_of x.kind; left = x.left; right = x.right }));
 }
 
-abbrev pub linksOf : RawLinks → List ℕ
-linksOf x = cond (eqb x.count 2) (x.first ∷ x.second ∷ []) (x.first ∷ [])
+abbrev pub links_of : RawLinks → List ℕ
+links_of x = cond (eqb x.count 2) (x.first ∷ x.second ∷ []) (x.first ∷ [])
 
 abbrev pub types_of : RawTable → List Ty
-types_of r = from r.types 0 (λ i. type_of r.methods r.sheet i (get_or r.records i noRawType))
+types_of r = from r.types 0 (λ i. type_of r.methods r.sheet i (get_or r.records i no_raw_type))
 
-abbrev pub placeBy : ℕ → ℕ → ℕ → Place
-placeBy zero class owner = object class owner
-placeBy (suc n) behind type = adapter behind type
+abbrev pub place_by : ℕ → ℕ → ℕ → Place
+place_by zero class owner = object class owner
+place_by (suc n) behind type = adapter behind type
 
 abbrev pub place_of : RawPlace → Place
-place_of p = placeBy p.code p.first p.second
+place_of p = place_by p.code p.first p.second
 
 abbrev pub call_of : RawCall → Call
 call_of c = record { caller = c.caller; cell = c.cell; method = c.method; answered = eqb c.answered 1 }
@@ -159,42 +159,42 @@ first_of n d xs = from n 0 (λ k. get_or xs k d)
 
 -- the counted records; their lists are as long as the counts say
 unfoldable pub table_of : RawTable → Table
-table_of r = record { subjects = r.subjects; methods = r.methods; cats = from r.cats 1 (λ k. linksOf (get_or r.links k noRawLinks)); sheet = r.sheet; types = types_of r }
+table_of r = record { subjects = r.subjects; methods = r.methods; cats = from r.cats 1 (λ k. links_of (get_or r.links k no_raw_links)); sheet = r.sheet; types = types_of r }
 
-unfoldable pub systemOf : RawSystem → System
+unfoldable pub system_of : RawSystem → System
 unfolding table_of
-systemOf r = record {
+system_of r = record {
   table = table_of r.table;
-  cells = from r.cells 0 (λ k. get_or r.cellRecords k noCell);
-  places = from r.places 0 (λ k. place_of (get_or r.placeRecords k noRawPlace));
-  calls = from r.calls 0 (λ k. call_of (get_or r.callRecords k noRawCall));
+  cells = from r.cells 0 (λ k. get_or r.cell_records k no_cell);
+  places = from r.places 0 (λ k. place_of (get_or r.place_records k no_raw_place));
+  calls = from r.calls 0 (λ k. call_of (get_or r.call_records k no_raw_call));
 }
 
 -- every code that counts names something (H2, H3)
-abbrev pub rawMethodFits : RawMethod → Bool
-rawMethodFits m = ltb m.state 4 && (permit (state_of m.state) ⇒ leb m.count maxArguments)
+abbrev pub raw_method_fits : RawMethod → Bool
+raw_method_fits m = ltb m.state 4 && (permit (state_of m.state) ⇒ leb m.count max_arguments)
 
-abbrev pub rawTypeFits : ℕ → ℕ → ℕ → RawType → Bool
-rawTypeFits methods sheet i x = ltb x.rep 3 && ((isRef (repOf x.rep) ⇒ (ltb x.own 2 && all rawMethodFits (from methods 0 (λ j. get_or x.methods j noRawMethod))))
+abbrev pub raw_type_fits : ℕ → ℕ → ℕ → RawType → Bool
+raw_type_fits methods sheet i x = ltb x.rep 3 && ((is_ref (rep_of x.rep) ⇒ (ltb x.own 2 && all raw_method_fits (from methods 0 (λ j. get_or x.methods j no_raw_method))))
     && (ltb i sheet || ltb x.kind 3))
 
-unfoldable pub codesFit : RawTable → Bool
-codesFit r = all (λ x. between 1 maxBroader x.count) (from r.cats 1 (λ k. get_or r.links k noRawLinks))
-    && every (rawTypeFits r.methods r.sheet) 0 (from r.types 0 (λ i. get_or r.records i noRawType))
+unfoldable pub codes_fit : RawTable → Bool
+codes_fit r = all (λ x. between 1 max_broader x.count) (from r.cats 1 (λ k. get_or r.links k no_raw_links))
+    && every (raw_type_fits r.methods r.sheet) 0 (from r.types 0 (λ i. get_or r.records i no_raw_type))
 
-unfoldable pub tableAccepted : RawTable → Bool
-unfolding codesFit tableFits table_of
-tableAccepted r = codesFit r && tableFits (table_of r)
+unfoldable pub table_accepted : RawTable → Bool
+unfolding codes_fit table_fits table_of
+table_accepted r = codes_fit r && table_fits (table_of r)
 
 -- the same of places and calls: object or adapter, answered or not
-unfoldable pub stateCodesFit : RawSystem → Bool
-stateCodesFit r = all (λ p. ltb p.code 2) (first_of r.places noRawPlace r.placeRecords) && all (λ c. ltb c.answered 2) (first_of r.calls noRawCall r.callRecords)
+unfoldable pub state_codes_fit : RawSystem → Bool
+state_codes_fit r = all (λ p. ltb p.code 2) (first_of r.places no_raw_place r.place_records) && all (λ c. ltb c.answered 2) (first_of r.calls no_raw_call r.call_records)
 
-unfoldable pub systemAccepted : RawSystem → Bool
-unfolding codesFit stateCodesFit systemFits systemOf
-systemAccepted r = codesFit r.table && (stateCodesFit r && systemFits (systemOf r))
+unfoldable pub system_accepted : RawSystem → Bool
+unfolding codes_fit state_codes_fit system_fits system_of
+system_accepted r = codes_fit r.table && (state_codes_fit r && system_fits (system_of r))
 
 -- What Compare comes to on a table that is handed in: 2 before all else. (Requests: Handed.)
-unfoldable pub compareHanded : RawTable → ℤ → ℤ → Res Comparison
-unfolding tableAccepted compare
-compareHanded r a b = need (tableAccepted r) outOfRange λ _. compare (table_of r) a b
+unfoldable pub compare_handed : RawTable → ℤ → ℤ → Res Comparison
+unfolding table_accepted compare
+compare_handed r a b = need (table_accepted r) out_of_range λ _. compare (table_of r) a b

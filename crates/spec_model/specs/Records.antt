@@ -3,58 +3,58 @@
 use Rattle.std.specs.Prelude.{List, ℕ, suc, length, get_or}
 use Rattle.std.proofs.Math.Option.{Option, none, some}
 use Rattle.spec_model.specs.Basics.{from}
-use Rattle.spec_model.specs.Table.{State, denied, optional, avail, unavail, Rep, ref, w32, w64, Kind, sub, sup, closed, Key, Method, Ty, noMethod, maxMethods}
+use Rattle.spec_model.specs.Table.{State, denied, optional, avail, unavail, Rep, ref, w32, w64, Kind, sub, sup, closed, Key, Method, Ty, no_method, max_methods}
 use Rattle.spec_model.specs.Relations.{bit}
 use Rattle.spec_model.specs.Check.{RawMethod, RawType, RawLinks}
 
-abbrev pub stateCode : State → ℕ
-stateCode denied = 0
-stateCode optional = 1
-stateCode avail = 2
-stateCode unavail = 3
+abbrev pub state_code : State → ℕ
+state_code denied = 0
+state_code optional = 1
+state_code avail = 2
+state_code unavail = 3
 
-abbrev pub repCode : Rep → ℕ
-repCode ref = 0
-repCode w32 = 1
-repCode w64 = 2
+abbrev pub rep_code : Rep → ℕ
+rep_code ref = 0
+rep_code w32 = 1
+rep_code w64 = 2
 
-abbrev pub kindCode : Kind → ℕ
-kindCode sub = 0
-kindCode sup = 1
-kindCode closed = 2
+abbrev pub kind_code : Kind → ℕ
+kind_code sub = 0
+kind_code sup = 1
+kind_code closed = 2
 
-abbrev pub answerCode : Option ℕ → ℕ
-answerCode none = 0
-answerCode (some a) = suc a
+abbrev pub answer_code : Option ℕ → ℕ
+answer_code none = 0
+answer_code (some a) = suc a
 
 -- a sheet type has no key: kind, left and right are 0
-abbrev pub keyCodes : Option Key → ℕ × ℕ × ℕ
-keyCodes none = (0, 0, 0)
-keyCodes (some k) = (kindCode k.kind, k.left, k.right)
+abbrev pub key_codes : Option Key → ℕ × ℕ × ℕ
+key_codes none = (0, 0, 0)
+key_codes (some k) = (kind_code k.kind, k.left, k.right)
 
 -- four slots for arguments in every record
-abbrev pub argumentSlots : ℕ
-argumentSlots = 4
+abbrev pub argument_slots : ℕ
+argument_slots = 4
 
-abbrev pub methodRecord : Method → RawMethod
-methodRecord m = record {
-  state = stateCode m.state;
+abbrev pub method_record : Method → RawMethod
+method_record m = record {
+  state = state_code m.state;
   count = length m.args;
-  args = from argumentSlots 0 (λ j. get_or m.args j 0);
-  answer = answerCode m.answer;
+  args = from argument_slots 0 (λ j. get_or m.args j 0);
+  answer = answer_code m.answer;
 }
 
 -- 16 methods in every record
-abbrev pub typeRecord : Ty → RawType
-typeRecord x = record {
-  rep = repCode x.rep;
+abbrev pub type_record : Ty → RawType
+type_record x = record {
+  rep = rep_code x.rep;
   cat = x.cat;
-  own_val = bit x.own;
-  kind = (keyCodes x.key).0;
-  left = (keyCodes x.key).1;
-  right = (keyCodes x.key).2;
-  methods = from maxMethods 0 (λ j. methodRecord (get_or x.methods j noMethod));
+  own = bit x.own;
+  kind = (key_codes x.key).0;
+  left = (key_codes x.key).1;
+  right = (key_codes x.key).2;
+  methods = from max_methods 0 (λ j. method_record (get_or x.methods j no_method));
 }
 
-abbrev pub linksRecord : List ℕ → RawLinks
-linksRecord xs = record { count = length xs; first = get_or xs 0 0; second = get_or xs 1 0 }
+abbrev pub links_record : List ℕ → RawLinks
+links_record xs = record { count = length xs; first = get_or xs 0 0; second = get_or xs 1 0 }

@@ -5,10 +5,10 @@ use mathlib.Core.List.{List, [], ◌∷◌, ◌++◌}
 use mathlib.Core.Option.{none, some}
 use Prim.Native.Nat.{ℕ}
 use Rattle.spec_model.specs.Basics.{refuse, ok, from}
-use Rattle.spec_model.specs.Table.{denied, optional, avail, unavail, ref, w32, w64, Method, Table, State, withTypes, validSheet, bare}
+use Rattle.spec_model.specs.Table.{denied, optional, avail, unavail, ref, w32, w64, Method, Table, State, with_types, valid_sheet, bare}
 use Rattle.spec_sheet.specs.Lines.{bytes}
-use Rattle.spec_sheet.specs.Text.{text, writeText, write}
-use Rattle.spec_sheet.specs.Sheet.{malformed, loaded, read, sheetType}
+use Rattle.spec_sheet.specs.Text.{text, write_text, write}
+use Rattle.spec_sheet.specs.Sheet.{malformed, loaded, read, sheet_type}
 
 asks : Method
 asks = record { state = avail; args = []; answer = some 0 }
@@ -17,24 +17,24 @@ takes : State → Method
 takes s = record { state = s; args = 0 ∷ []; answer = none }
 
 -- Case P (K1)
-unfoldable pub caseP : Table
+unfoldable pub case_p : Table
 unfolding asks takes
-caseP = record {
+case_p = record {
   subjects = 3;
   methods = 3;
   cats = [];
   sheet = 6;
   types =
-      sheetType w32 0 false []
-      ∷ sheetType ref 0 false (asks ∷ takes avail ∷ bare avail ∷ [])
-      ∷ sheetType ref 0 false (asks ∷ bare denied ∷ bare denied ∷ [])
-      ∷ sheetType ref 0 false (asks ∷ takes optional ∷ bare denied ∷ [])
-      ∷ sheetType ref 0 true (asks ∷ takes avail ∷ bare avail ∷ [])
-      ∷ sheetType ref 0 false (bare denied ∷ takes avail ∷ bare denied ∷ []) ∷ [];
+      sheet_type w32 0 false []
+      ∷ sheet_type ref 0 false (asks ∷ takes avail ∷ bare avail ∷ [])
+      ∷ sheet_type ref 0 false (asks ∷ bare denied ∷ bare denied ∷ [])
+      ∷ sheet_type ref 0 false (asks ∷ takes optional ∷ bare denied ∷ [])
+      ∷ sheet_type ref 0 true (asks ∷ takes avail ∷ bare avail ∷ [])
+      ∷ sheet_type ref 0 false (bare denied ∷ takes avail ∷ bare denied ∷ []) ∷ [];
 }
 
-unfoldable pub sheetP : List ℕ
-sheetP = bytes "guide=1\nsubjects=3\nmethods=3\ncats=0\ntypes=6\n"
+unfoldable pub sheet_p : List ℕ
+sheet_p = bytes "guide=1\nsubjects=3\nmethods=3\ncats=0\ntypes=6\n"
     ++ bytes "type=0\nrep=w32\ncat=0\n"
     ++ bytes "type=1\nrep=ref\ncat=0\nown=no\nm=avail()0\nm=avail(0)-\nm=avail()-\n"
     ++ bytes "type=2\nrep=ref\ncat=0\nown=no\nm=avail()0\nm=denied\nm=denied\n"
@@ -43,21 +43,21 @@ sheetP = bytes "guide=1\nsubjects=3\nmethods=3\ncats=0\ntypes=6\n"
     ++ bytes "type=5\nrep=ref\ncat=0\nown=no\nm=denied\nm=avail(0)-\nm=denied\n"
     ++ bytes "end=sheet\n"
 
-pub case-p : read sheetP ≡ loaded caseP
-unfolding read sheetP caseP
+pub case-p : read sheet_p ≡ loaded case_p
+unfolding read sheet_p case_p
 case-p = refl
 
-pub case-p-text : text caseP ≡ sheetP
-unfolding text sheetP caseP
+pub case-p-text : text case_p ≡ sheet_p
+unfolding text sheet_p case_p
 case-p-text = refl
 
-pub case-p-valid : So (validSheet caseP)
-unfolding validSheet caseP
+pub case-p-valid : So (valid_sheet case_p)
+unfolding valid_sheet case_p
 case-p-valid = refl
 
 -- a type behind the sheet's six is left out (W5)
-pub derived-not-written : text (withTypes caseP (caseP.types ++ (sheetType w32 0 false [] ∷ []))) ≡ sheetP
-unfolding text sheetP caseP
+pub derived-not-written : text (with_types case_p (case_p.types ++ (sheet_type w32 0 false [] ∷ []))) ≡ sheet_p
+unfolding text sheet_p case_p
 derived-not-written = refl
 
 -- categories, two broader ones, four arguments, unavail and w64
@@ -68,28 +68,28 @@ mixed = record {
   cats = (0 ∷ []) ∷ (1 ∷ 0 ∷ []) ∷ [];
   sheet = 2;
   types =
-      sheetType ref 2 false (record { state = optional; args = 0 ∷ 1 ∷ 1 ∷ 0 ∷ []; answer = some 1 } ∷ bare unavail ∷ []) ∷ sheetType w64 1 false [] ∷ [];
+      sheet_type ref 2 false (record { state = optional; args = 0 ∷ 1 ∷ 1 ∷ 0 ∷ []; answer = some 1 } ∷ bare unavail ∷ []) ∷ sheet_type w64 1 false [] ∷ [];
 }
 
-unfoldable pub mixedSheet : List ℕ
-mixedSheet = bytes "guide=1\nsubjects=16\nmethods=2\ncats=2\nunder=0\nunder=1,0\ntypes=2\n"
+unfoldable pub mixed_sheet : List ℕ
+mixed_sheet = bytes "guide=1\nsubjects=16\nmethods=2\ncats=2\nunder=0\nunder=1,0\ntypes=2\n"
     ++ bytes "type=0\nrep=ref\ncat=2\nown=no\nm=optional(0,1,1,0)1\nm=unavail\ntype=1\nrep=w64\ncat=1\nend=sheet\n"
 
-pub mixed-read : read mixedSheet ≡ loaded mixed
-unfolding read mixedSheet mixed
+pub mixed-read : read mixed_sheet ≡ loaded mixed
+unfolding read mixed_sheet mixed
 mixed-read = refl
 
-pub mixed-text : text mixed ≡ mixedSheet
-unfolding text mixedSheet mixed
+pub mixed-text : text mixed ≡ mixed_sheet
+unfolding text mixed_sheet mixed
 mixed-text = refl
 
 -- a buffer with too little room, and one with room to spare (W2 to W4)
-pub short-buffer : writeText (bytes "abc") (bytes "..") ≡ record { result = refuse 4; buffer = bytes ".." }
-unfolding writeText
+pub short-buffer : write_text (bytes "abc") (bytes "..") ≡ record { result = refuse 4; buffer = bytes ".." }
+unfolding write_text
 short-buffer = refl
 
-pub long-buffer : writeText (bytes "abc") (bytes ".....") ≡ record { result = ok 3; buffer = bytes "abc.." }
-unfolding writeText
+pub long-buffer : write_text (bytes "abc") (bytes ".....") ≡ record { result = ok 3; buffer = bytes "abc.." }
+unfolding write_text
 long-buffer = refl
 
 -- 2 before 4 (W1): no counts, and a buffer that is short for any sheet
@@ -107,8 +107,8 @@ one = bytes "guide=1\nsubjects=3\nmethods=1\ncats=0\ntypes=1\ntype=0\nrep=ref\nc
 unfoldable pub own : List ℕ
 own = bytes "guide=1\nsubjects=3\nmethods=1\ncats=0\ntypes=1\ntype=0\nrep=ref\ncat=0\nown=yes\nm=avail(0)-\n"
 
-unfoldable pub ownAnswer : List ℕ
-ownAnswer = bytes "guide=1\nsubjects=3\nmethods=1\ncats=0\ntypes=1\ntype=0\nrep=ref\ncat=0\nown=yes\nm=avail()0\n"
+unfoldable pub own_answer : List ℕ
+own_answer = bytes "guide=1\nsubjects=3\nmethods=1\ncats=0\ntypes=1\ntype=0\nrep=ref\ncat=0\nown=yes\nm=avail()0\n"
 
 -- S1: a `guide=` number that isn't known
 pub s1-unknown-form : read (bytes "guide=2\nsubjects=3\n") ≡ malformed 2 0
@@ -241,8 +241,8 @@ unfolding read own
 s13-own = refl
 
 -- S13: own as an answer
-pub s13-own-answer : read (ownAnswer ++ bytes "end=sheet\n") ≡ malformed 3 84
-unfolding read ownAnswer
+pub s13-own-answer : read (own_answer ++ bytes "end=sheet\n") ≡ malformed 3 84
+unfolding read own_answer
 s13-own-answer = refl
 
 -- S30: type 1 where type 0 is due

@@ -12,8 +12,8 @@ use Rattle.spec_model.specs.Basics.{Res, ok, all, need}
 use Rattle.spec_model.proofs.Rules.{both, first, second, never}
 use Rattle.spec_model.specs.Refusals.{form}
 use Rattle.spec_sheet.specs.Lines.{Row, row, cut, push, split, join, starts, same, keyed, choice}
-use Rattle.spec_sheet.specs.Clean.{notLF, clean}
-use Rattle.spec_sheet.specs.Numbers.{decimal, tails, commas, decimalIn}
+use Rattle.spec_sheet.specs.Clean.{not_lf, clean}
+use Rattle.spec_sheet.specs.Numbers.{decimal, tails, commas, decimal_in}
 use Rattle.spec_sheet.proofs.Steps.{cond_cases, ok-value, refuse-ok, need-ok}
 
 -- bytes back from rows
@@ -60,15 +60,15 @@ pub clean-lines : (a b : List (List ℕ)) → Clean a → Clean b → Clean (a +
 clean-lines [] b h k = k
 clean-lines (l ∷ a) b h k = (h.0, clean-lines a b h.1 k)
 
-pub notLF-eqb : (b : ℕ) → So (notLF b) → eqb b 10 ≡ false
-notLF-eqb b h = cond_cases (eqb b 10) h (λ e k. never k) (λ e k. e)
+pub not_lf-eqb : (b : ℕ) → So (not_lf b) → eqb b 10 ≡ false
+not_lf-eqb b h = cond_cases (eqb b 10) h (λ e k. never k) (λ e k. e)
 
 pub split-line : (l xs : List ℕ) → So (clean l) → split (l ++ 10 ∷ xs) ≡ row l ∷ split xs
 unfolding split
 split-line [] xs h = refl
 split-line (b ∷ l) xs h =
-    ap (λ z. cond z (row [] ∷ split (l ++ 10 ∷ xs)) (push b (split (l ++ 10 ∷ xs)))) (notLF-eqb b (first (notLF b) (clean l) h))
-    ∙ ap (push b) (split-line l xs (second (notLF b) (clean l) h))
+    ap (λ z. cond z (row [] ∷ split (l ++ 10 ∷ xs)) (push b (split (l ++ 10 ∷ xs)))) (not_lf-eqb b (first (not_lf b) (clean l) h))
+    ∙ ap (push b) (split-line l xs (second (not_lf b) (clean l) h))
 
 pub split-full : (ls : List (List ℕ)) → Clean ls → split (join ls) ≡ rows ls
 unfolding join split
@@ -80,28 +80,28 @@ pub all_append : (f : ℕ → Bool) (a b : List ℕ) → So (all f a) → So (al
 all_append f [] b h k = k
 all_append f (x ∷ a) b h k = both (first (f x) (all f a) h) (all_append f a b (second (f x) (all f a) h) k)
 
-digit-clean : (n : ℕ) → So (notLF (48 + n))
+digit-clean : (n : ℕ) → So (not_lf (48 + n))
 digit-clean n = ap (λ z. cond z false true) (ne_eqb (48 + n) 10 (λ q. omega arith))
 
-digits-clean : (f n : ℕ) → So (clean (decimalIn f n))
-unfolding decimalIn
+digits-clean : (f n : ℕ) → So (clean (decimal_in f n))
+unfolding decimal_in
 digits-clean zero n = refl
 digits-clean (suc f) n = go (digits-clean f (n / 10)) (ltb n 10)
   where
-    go : So (clean (decimalIn f (n / 10))) → (b : Bool) → So (clean (cond b ((48 + n) ∷ []) (decimalIn f (n / 10) ++ (48 + n % 10) ∷ [])))
+    go : So (clean (decimal_in f (n / 10))) → (b : Bool) → So (clean (cond b ((48 + n) ∷ []) (decimal_in f (n / 10) ++ (48 + n % 10) ∷ [])))
     go ih true = both (digit-clean n) refl
-    go ih false = all_append notLF (decimalIn f (n / 10)) ((48 + n % 10) ∷ []) ih (both (digit-clean (n % 10)) refl)
+    go ih false = all_append not_lf (decimal_in f (n / 10)) ((48 + n % 10) ∷ []) ih (both (digit-clean (n % 10)) refl)
 
 pub decimal-clean : (n : ℕ) → So (clean (decimal n))
 decimal-clean n = digits-clean 20 n
 
 tails-clean : (xs : List ℕ) → So (clean (tails xs))
 tails-clean [] = refl
-tails-clean (x ∷ xs) = all_append notLF (decimal x) (tails xs) (decimal-clean x) (tails-clean xs)
+tails-clean (x ∷ xs) = all_append not_lf (decimal x) (tails xs) (decimal-clean x) (tails-clean xs)
 
 pub commas-clean : (xs : List ℕ) → So (clean (commas xs))
 commas-clean [] = refl
-commas-clean (x ∷ xs) = all_append notLF (decimal x) (tails xs) (decimal-clean x) (tails-clean xs)
+commas-clean (x ∷ xs) = all_append not_lf (decimal x) (tails xs) (decimal-clean x) (tails-clean xs)
 
 -- words at the start of a line
 pub starts-sound : (k l : List ℕ) → So (starts k l) → l ≡ k ++ drop (length k) l

@@ -7,9 +7,9 @@ use native.Mathlib.Omega.{arith}
 use lib.ListN.{length, length-append}
 use Rattle.spec_model.specs.Basics.{Res, refuse, ok}
 use Rattle.spec_model.specs.Table.{Rep, ref, w32, w64, Table}
-use Rattle.spec_model.specs.Refusals.{notBelow}
-use Rattle.spec_sheet.specs.Lines.{Row, row, cut, split, join, Reading, refused, got, Reader, line_at, line, follow, bind, times, endOfInput}
-use Rattle.spec_sheet.specs.Sheet.{underLine, ownLine, endLine, methodLine, members, oneType, body, signaturesStand, ending, sheet, malformed, loaded, sheetResult, read}
+use Rattle.spec_model.specs.Refusals.{not_below}
+use Rattle.spec_sheet.specs.Lines.{Row, row, cut, split, join, Reading, refused, got, Reader, line_at, line, follow, bind, times, end_of_input}
+use Rattle.spec_sheet.specs.Sheet.{under_line, own_line, end_line, method_line, members, one_type, body, signatures_stand, ending, sheet, malformed, loaded, sheet_result, read}
 use Rattle.spec_sheet.proofs.Lines.{unsplit, unsplit-split, rows, rows_append}
 
 -- from offset at with rows rs, whole lines lead to offset at' with rows rs'
@@ -79,35 +79,35 @@ times-places p h (suc n) i acc at rs = follow-places at rs (p i at rs) _ (h i at
 
 members-places : (m n : ℕ) (r : Rep) (c : ℕ) → Places (members m n r c)
 unfolding members
-members-places m n ref c = bind-places (line ownLine) _ (line-places ownLine) λ o.
-    bind-places (times (λ j. line (methodLine n)) m 0 []) _ (times-places (λ j. line (methodLine n)) (λ j. line-places (methodLine n)) m 0 []) λ ms. ahead_none
+members-places m n ref c = bind-places (line own_line) _ (line-places own_line) λ o.
+    bind-places (times (λ j. line (method_line n)) m 0 []) _ (times-places (λ j. line (method_line n)) (λ j. line-places (method_line n)) m 0 []) λ ms. ahead_none
 members-places m n w32 c = ahead_none
 members-places m n w64 c = ahead_none
 
-type-places : (m c n i : ℕ) → Places (oneType m c n i)
-unfolding oneType
+type-places : (m c n i : ℕ) → Places (one_type m c n i)
+unfolding one_type
 type-places m c n i = bind-places (line _) _ (line-places _) λ x. bind-places (line _) _ (line-places _) λ r. bind-places (line _) _ (line-places _) λ k. members-places m n r k
 
 body-places : Places body
 unfolding body
 body-places = bind-places (line _) _ (line-places _) λ g. bind-places (line _) _ (line-places _) λ s. bind-places (line _) _ (line-places _) λ m. bind-places (line _) _ (line-places _) λ c.
-    bind-places (times (λ k. line (underLine c k)) c 1 []) _ (times-places (λ k. line (underLine c k)) (λ k. line-places (underLine c k)) c 1 []) λ us. bind-places (line _) _ (line-places _) λ n.
-    bind-places (times (oneType m c n) n 0 []) _ (times-places (oneType m c n) (type-places m c n) n 0 []) λ ts. ahead_none
+    bind-places (times (λ k. line (under_line c k)) c 1 []) _ (times-places (λ k. line (under_line c k)) (λ k. line-places (under_line c k)) c 1 []) λ us. bind-places (line _) _ (line-places _) λ n.
+    bind-places (times (one_type m c n) n 0 []) _ (times-places (one_type m c n) (type-places m c n) n 0 []) λ ts. ahead_none
 
 -- own in a signature is refused at the last line's offset, where `ending` started
 ending-places : (t : Table) → Places (ending t)
 unfolding ending
-ending-places t last rs = go (line endLine last rs) (line-places endLine last rs)
+ending-places t last rs = go (line end_line last rs) (line-places end_line last rs)
   where
-    own : (b : Bool) (a : ℕ) (q : List Row) → Ahead last rs a q → Placed last rs (cond b (got t a q) (refused notBelow last))
+    own : (b : Bool) (a : ℕ) (q : List Row) → Ahead last rs a q → Placed last rs (cond b (got t a q) (refused not_below last))
     own true a q h = h
     own false a q h = (rs, ahead_none last rs)
 
-    behind : (a : ℕ) (q : List Row) → Ahead last rs a q → Placed last rs (follow (endOfInput a q) λ u at rs. cond (signaturesStand t) (got t at rs) (refused notBelow last))
-    behind a [] h = own (signaturesStand t) a [] h
+    behind : (a : ℕ) (q : List Row) → Ahead last rs a q → Placed last rs (follow (end_of_input a q) λ u at rs. cond (signatures_stand t) (got t at rs) (refused not_below last))
+    behind a [] h = own (signatures_stand t) a [] h
     behind a (r ∷ q) h = (r ∷ q, h)
 
-    go : (r : Reading (Unit {0})) → Placed last rs r → Placed last rs (follow r λ u. bind endOfInput λ u at rs. cond (signaturesStand t) (got t at rs) (refused notBelow last))
+    go : (r : Reading (Unit {0})) → Placed last rs r → Placed last rs (follow r λ u. bind end_of_input λ u at rs. cond (signatures_stand t) (got t at rs) (refused not_below last))
     go (refused n k) h = h
     go (got u a q) h = behind a q h
 
@@ -127,7 +127,7 @@ pub offset-behind-lines : (bs : List ℕ) (n at : ℕ) → read bs ≡ malformed
 unfolding read sheet
 offset-behind-lines bs n at = go (sheet 0 (split bs)) (follow-places 0 (split bs) (body 0 (split bs)) ending (body-places 0 (split bs)) ending-places)
   where
-    go : (r : Reading Table) → Placed 0 (split bs) r → sheetResult r ≡ malformed n at → (ls : List (List ℕ)) × (rest : List ℕ) × (bs ≡ join ls ++ rest) × (at ≡ length (join ls))
+    go : (r : Reading Table) → Placed 0 (split bs) r → sheet_result r ≡ malformed n at → (ls : List (List ℕ)) × (rest : List ℕ) × (bs ≡ join ls ++ rest) × (at ≡ length (join ls))
     go (refused k j) h e =
         let i = h.1 in
         let p : j ≡ 0 + length (join i.lines) = i.offset in

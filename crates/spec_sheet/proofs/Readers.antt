@@ -53,21 +53,21 @@ pure-exact {v} {fit} h only = record {
 }
 
 -- One reader and then another, where the first one's value is a part of the second one's.
-pub bind-exact : {A B : Type 0} {p : Reader A} {k : A → Reader B} {fitA : A → Type 0} {fit : B → Type 0} {lsA : A → List (List ℕ)} {ls : B → List (List ℕ)} (part : B → A)
-    → Exact p fitA lsA → ((y : B) → fit y → fitA (part y)) → ((x : A) → fitA x → Exact (k x) (λ y. (part y ≡ x) × fit y) ls) → Exact (bind p k) fit (λ y. lsA (part y) ++ ls y)
-bind-exact {p} {k} {fitA} {fit} {lsA} {ls} part E fits F =
-    record { sound = from; full = to; lf = λ y o. clean-lines (lsA (part y)) (ls y) (E.lf (part y) (fits y o)) ((F (part y) (fits y o)).lf y (refl, o)) }
+pub bind-exact : {A B : Type 0} {p : Reader A} {k : A → Reader B} {fit_a : A → Type 0} {fit : B → Type 0} {ls_a : A → List (List ℕ)} {ls : B → List (List ℕ)} (part : B → A)
+    → Exact p fit_a ls_a → ((y : B) → fit y → fit_a (part y)) → ((x : A) → fit_a x → Exact (k x) (λ y. (part y ≡ x) × fit y) ls) → Exact (bind p k) fit (λ y. ls_a (part y) ++ ls y)
+bind-exact {p} {k} {fit_a} {fit} {ls_a} {ls} part E fits F =
+    record { sound = from; full = to; lf = λ y o. clean-lines (ls_a (part y)) (ls y) (E.lf (part y) (fits y o)) ((F (part y) (fits y o)).lf y (refl, o)) }
   where
-    join-rows : (y : _) (rs' : List Row) → rows (lsA (part y) ++ ls y) ++ rs' ≡ rows (lsA (part y)) ++ (rows (ls y) ++ rs')
-    join-rows y rs' = ap (λ z. z ++ rs') (rows_append (lsA (part y)) (ls y)) ∙ append_assoc (rows (lsA (part y))) (rows (ls y)) rs'
+    join-rows : (y : _) (rs' : List Row) → rows (ls_a (part y) ++ ls y) ++ rs' ≡ rows (ls_a (part y)) ++ (rows (ls y) ++ rs')
+    join-rows y rs' = ap (λ z. z ++ rs') (rows_append (ls_a (part y)) (ls y)) ∙ append_assoc (rows (ls_a (part y))) (rows (ls y)) rs'
 
-    from : (at : ℕ) (rs : List Row) (y : _) (at' : ℕ) (rs' : List Row) → bind p k at rs ≡ got y at' rs' → fit y × (rs ≡ rows (lsA (part y) ++ ls y) ++ rs')
+    from : (at : ℕ) (rs : List Row) (y : _) (at' : ℕ) (rs' : List Row) → bind p k at rs ≡ got y at' rs' → fit y × (rs ≡ rows (ls_a (part y) ++ ls y) ++ rs')
     from at rs y at' rs' h = follow-got (p at rs) k h λ x a q e₁ e₂.
         let i = E.sound at rs x a q e₁ in
         let j = (F x i.0).sound a q y at' rs' e₂ in
-        (j.0.1, i.1 ∙ ap (λ z. rows (lsA x) ++ z) j.1 ∙ ap (λ z. rows (lsA z) ++ (rows (ls y) ++ rs')) (sym j.0.0) ∙ sym (join-rows y rs'))
+        (j.0.1, i.1 ∙ ap (λ z. rows (ls_a x) ++ z) j.1 ∙ ap (λ z. rows (ls_a z) ++ (rows (ls y) ++ rs')) (sym j.0.0) ∙ sym (join-rows y rs'))
 
-    to : (at : ℕ) (y : _) (rs' : List Row) → fit y → (at' : ℕ) × (bind p k at (rows (lsA (part y) ++ ls y) ++ rs') ≡ got y at' rs')
+    to : (at : ℕ) (y : _) (rs' : List Row) → fit y → (at' : ℕ) × (bind p k at (rows (ls_a (part y) ++ ls y) ++ rs') ≡ got y at' rs')
     to at y rs' o =
         let i = E.full at (part y) (rows (ls y) ++ rs') (fits y o) in
         let j = (F (part y) (fits y o)).full i.0 y rs' (refl, o) in

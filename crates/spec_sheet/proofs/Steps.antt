@@ -6,7 +6,7 @@ use mathlib.Core.Option.{none, some}
 use Prim.Native.Nat.{ℕ}
 use native.Mathlib.Omega.{arith}
 use Rattle.spec_model.specs.Basics.{Res, refuse, ok, try, need}
-use Rattle.spec_sheet.specs.Numbers.{Scan, fail, took, bindScan, whole}
+use Rattle.spec_sheet.specs.Numbers.{Scan, fail, took, bind_scan, whole}
 
 pub cond_cases : {A C : Type 0} {x y z : A} (b : Bool) → cond b x y ≡ z → (b ≡ true → x ≡ z → C) → (b ≡ false → y ≡ z → C) → C
 cond_cases true h f g = f refl h
@@ -40,10 +40,10 @@ took-value p = cc
 pub took-rest : {A : Type 0} {x y : A} {r q : List ℕ} → took x r ≡ took y q → r ≡ q
 took-rest p = cc
 
-pub bindScan-took : {A B C : Type 0} {y : B} {r : List ℕ} (s : Scan A) (k : A → List ℕ → Scan B) → bindScan s k ≡ took y r
+pub bind_scan-took : {A B C : Type 0} {y : B} {r : List ℕ} (s : Scan A) (k : A → List ℕ → Scan B) → bind_scan s k ≡ took y r
     → ((x : A) (q : List ℕ) → s ≡ took x q → k x q ≡ took y r → C) → C
-bindScan-took fail k h c = absurd (fail-took h)
-bindScan-took (took x q) k h c = c x q refl h
+bind_scan-took fail k h c = absurd (fail-took h)
+bind_scan-took (took x q) k h c = c x q refl h
 
 pub whole-ok : {A : Type 0} {x : A} (s : Scan A) → whole s ≡ ok x → s ≡ took x []
 whole-ok fail h = refuse-ok h

@@ -4,8 +4,8 @@ use Prim.Native.Char.{code}
 use Rattle.spec_model.specs.Basics.{all}
 
 -- no LF stands in these bytes
-abbrev pub notLF : ℕ → Bool
-notLF b = cond (eqb b (code "\n")) false true
+abbrev pub not_lf : ℕ → Bool
+not_lf b = cond (eqb b (code "\n")) false true
 
 abbrev pub clean : List ℕ → Bool
-clean l = all notLF l
+clean l = all not_lf l

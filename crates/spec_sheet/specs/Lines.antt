@@ -57,10 +57,10 @@ line f at (row l ∷ rs) = line_at (f l) at l rs
 
 -- The line that stands first, without its LF; empty where no LF ends one. Every line kind of a sheet refuses an empty line with 1, so a missing line and a cut one
 -- are refused by the same reading.
-abbrev pub firstLine : List Row → List ℕ
-firstLine [] = []
-firstLine (cut l ∷ rs) = []
-firstLine (row l ∷ rs) = l
+abbrev pub first_line : List Row → List ℕ
+first_line [] = []
+first_line (cut l ∷ rs) = []
+first_line (row l ∷ rs) = l
 
 -- go on behind what was read
 abbrev pub follow : {A B : Type 0} → Reading A → (A → Reader B) → Reading B
@@ -77,9 +77,9 @@ times p zero i acc at rs = got acc at rs
 times p (suc n) i acc at rs = follow (p i at rs) (λ x. times p n (suc i) (acc ++ x ∷ []))
 
 -- anything that is left, ended by LF or not, is 1 where it begins (S10)
-abbrev pub endOfInput : Reader (Unit {0})
-endOfInput at [] = got tt at []
-endOfInput at (r ∷ rs) = refused form at
+abbrev pub end_of_input : Reader (Unit {0})
+end_of_input at [] = got tt at []
+end_of_input at (r ∷ rs) = refused form at
 
 -- Inside a line: whether it begins with a word, and whether it is that word.
 unfoldable pub starts : List ℕ → List ℕ → Bool

@@ -5,7 +5,7 @@ use Prim.Native.Nat.{ℕ}
 use Prim.Native.String.{String}
 use Rattle.spec_sheet.specs.Lines.{bytes, join}
 use Rattle.spec_sheet.specs.Text.{text}
-use Rattle.spec_tiny.specs.Numbered.{tinyAt}
+use Rattle.spec_tiny.specs.Numbered.{tiny_at}
 
 -- a sheet by the lines in which they differ
 pub sheet : String → String → List String → List ℕ
@@ -20,7 +20,7 @@ pub two : String → String → String → List ℕ
 two own m n = sheet "methods=2" own (m ∷ n ∷ [])
 
 -- one method
-pub cases-one : map (λ i. text (tinyAt i)) (0 ∷ 1 ∷ 2 ∷ 3 ∷ 4 ∷ 5 ∷ 6 ∷ 7 ∷ 8 ∷ 9 ∷ 10 ∷ 11 ∷ 12 ∷ 13 ∷ [])
+pub cases-one : map (λ i. text (tiny_at i)) (0 ∷ 1 ∷ 2 ∷ 3 ∷ 4 ∷ 5 ∷ 6 ∷ 7 ∷ 8 ∷ 9 ∷ 10 ∷ 11 ∷ 12 ∷ 13 ∷ [])
     ≡ one "own=no" "m=denied"
     ∷ one "own=no" "m=unavail"
     ∷ one "own=no" "m=avail()-"
@@ -36,11 +36,11 @@ pub cases-one : map (λ i. text (tinyAt i)) (0 ∷ 1 ∷ 2 ∷ 3 ∷ 4 ∷ 5 ∷
     ∷ one "own=yes" "m=avail()-"
     ∷ one "own=yes" "m=optional()-"
     ∷ []
-unfolding text tinyAt sheet one
+unfolding text tiny_at sheet one
 cases-one = refl
 
 -- two methods
-pub cases-two : map (λ i. text (tinyAt i)) (14 ∷ 15 ∷ 23 ∷ 24 ∷ 113 ∷ 114 ∷ 117 ∷ 118 ∷ 129 ∷ [])
+pub cases-two : map (λ i. text (tiny_at i)) (14 ∷ 15 ∷ 23 ∷ 24 ∷ 113 ∷ 114 ∷ 117 ∷ 118 ∷ 129 ∷ [])
     ≡ two "own=no" "m=denied" "m=denied"
     ∷ two "own=no" "m=denied" "m=unavail"
     ∷ two "own=no" "m=denied" "m=optional(0)0"
@@ -51,5 +51,5 @@ pub cases-two : map (λ i. text (tinyAt i)) (14 ∷ 15 ∷ 23 ∷ 24 ∷ 113 ∷
     ∷ two "own=yes" "m=unavail" "m=denied"
     ∷ two "own=yes" "m=optional()-" "m=optional()-"
     ∷ []
-unfolding text tinyAt sheet two
+unfolding text tiny_at sheet two
 cases-two = refl

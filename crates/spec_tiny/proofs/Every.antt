@@ -6,36 +6,36 @@ use Prim.Native.Nat.{ℕ, suc, ◌<◌}
 use native.Mathlib.Omega.{arith}
 use lib.ListN.{length, get_or, length-map}
 use Rattle.spec_model.specs.Table.{Table}
-use Rattle.spec_model.proofs.Lists.{getD-map-in}
+use Rattle.spec_model.proofs.Lists.{get_or-map-in}
 use Rattle.spec_sheet.specs.Text.{text}
 use Rattle.spec_sheet.specs.Sheet.{read}
 use Rattle.spec_sheet.proofs.Exact.{same-table}
-use Rattle.spec_tiny.specs.Tiny.{tinyTable, tinyTables, tinyCount, tinyText}
-use Rattle.spec_tiny.specs.Numbered.{tinyAt}
+use Rattle.spec_tiny.specs.Tiny.{tiny_table, tiny_tables, tiny_count, tiny_text}
+use Rattle.spec_tiny.specs.Numbered.{tiny_at}
 use Rattle.spec_tiny.specs.Order.{rank}
-use Rattle.spec_tiny.specs.Every.{sheetsIn, sheetIn, Every}
+use Rattle.spec_tiny.specs.Every.{sheets_in, sheet_in, Every}
 use Rattle.spec_tiny.proofs.Count.{count, tiny, accepted, rank-at, methods-at, once-text, text-size}
 use Rattle.spec_tiny.proofs.All.{complete-text}
 
-sheets : sheetsIn tinyText ≡ map text tinyTables
-unfolding sheetsIn tinyText
+sheets : sheets_in tiny_text ≡ map text tiny_tables
+unfolding sheets_in tiny_text
 sheets = refl
 
-sheet-at : (i : ℕ) → i < tinyCount → sheetIn tinyText i ≡ text (tinyAt i)
-unfolding tinyAt
-sheet-at i l = ap (λ (xs : List (List ℕ)). get_or xs i []) sheets ∙ getD-map-in text tinyTables i (tinyTable false []) [] (rw count l)
+sheet-at : (i : ℕ) → i < tiny_count → sheet_in tiny_text i ≡ text (tiny_at i)
+unfolding tiny_at
+sheet-at i l = ap (λ (xs : List (List ℕ)). get_or xs i []) sheets ∙ get_or-map-in text tiny_tables i (tiny_table false []) [] (rw count l)
 
-whole : flatten (sheetsIn tinyText) ≡ tinyText
-unfolding tinyText
+whole : flatten (sheets_in tiny_text) ≡ tiny_text
+unfolding tiny_text
 whole = ap flatten sheets
 
-pub every-tiny : Every tinyText
+pub every-tiny : Every tiny_text
 every-tiny = record {
   whole = whole;
   size = text-size;
-  count = ap length sheets ∙ length-map tinyTables text ∙ count;
-  tiny = λ i l. (tinyAt i, record { accepted = ap read (sheet-at i l) ∙ accepted i l; kind = tiny i l }, rank-at i l);
-  methods = λ i t l e. ap (λ (z : Table). z.methods) (same-table (text (tinyAt i)) t (tinyAt i) (sym (ap read (sheet-at i l)) ∙ e) (accepted i l)) ∙ methods-at i l;
+  count = ap length sheets ∙ length-map tiny_tables text ∙ count;
+  tiny = λ i l. (tiny_at i, record { accepted = ap read (sheet-at i l) ∙ accepted i l; kind = tiny i l }, rank-at i l);
+  methods = λ i t l e. ap (λ (z : Table). z.methods) (same-table (text (tiny_at i)) t (tiny_at i) (sym (ap read (sheet-at i l)) ∙ e) (accepted i l)) ∙ methods-at i l;
   once = λ i j k l e. once-text i j k l (sym (sheet-at i k) ∙ e ∙ sheet-at j l);
   all = λ bs t h. let r = complete-text bs t h.accepted h.kind in (r.0, sheet-at (rank t) r.0 ∙ sym r.1);
 }
@@ -47,12 +47,12 @@ same_lists [] (y ∷ ys) e h = absurd (omega arith)
 same_lists (x ∷ xs) [] e h = absurd (omega arith)
 same_lists (x ∷ xs) (y ∷ ys) e h = ap (λ z. z ∷ xs) (h 0 (omega arith)) ∙ ap (λ zs. y ∷ zs) (same_lists xs ys (omega arith) (λ i l. h (suc i) (omega arith)))
 
-pub only : (out : List ℕ) → Every out → out ≡ tinyText
-only out e = sym e.whole ∙ ap flatten (same_lists (sheetsIn out) (sheetsIn tinyText) (e.count ∙ sym every-tiny.count) at) ∙ whole
+pub only : (out : List ℕ) → Every out → out ≡ tiny_text
+only out e = sym e.whole ∙ ap flatten (same_lists (sheets_in out) (sheets_in tiny_text) (e.count ∙ sym every-tiny.count) at) ∙ whole
   where
-    at : (i : ℕ) → i < length (sheetsIn out) → sheetIn out i ≡ sheetIn tinyText i
+    at : (i : ℕ) → i < length (sheets_in out) → sheet_in out i ≡ sheet_in tiny_text i
     at i l =
-        let k : i < tinyCount = subst (λ z. i < z) e.count l in
+        let k : i < tiny_count = subst (λ z. i < z) e.count l in
         let r = rank-at i k in
-        let a = e.all (text (tinyAt i)) (tinyAt i) (record { accepted = accepted i k; kind = tiny i k }) in
-        ap (sheetIn out) (sym r) ∙ a.1 ∙ sym (sheet-at i k)
+        let a = e.all (text (tiny_at i)) (tiny_at i) (record { accepted = accepted i k; kind = tiny i k }) in
+        ap (sheet_in out) (sym r) ∙ a.1 ∙ sym (sheet-at i k)

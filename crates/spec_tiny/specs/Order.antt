@@ -4,30 +4,30 @@ use Rattle.std.proofs.Math.Option.{Option, none, some}
 use Rattle.spec_model.specs.Table.{State, denied, optional, avail, unavail, Method, Table, type_at}
 
 -- `()-`, `()0`, `(0)-`, `(0)0`
-abbrev pub signatureRank : List ℕ → Option ℕ → ℕ
-signatureRank [] none = 0
-signatureRank [] (some a) = 1
-signatureRank (x ∷ xs) none = 2
-signatureRank (x ∷ xs) (some a) = 3
+abbrev pub signature_rank : List ℕ → Option ℕ → ℕ
+signature_rank [] none = 0
+signature_rank [] (some a) = 1
+signature_rank (x ∷ xs) none = 2
+signature_rank (x ∷ xs) (some a) = 3
 
 -- how many signatures a permitted method may have
-abbrev pub signatureCount : Bool → ℕ
-signatureCount own = cond own 1 4
+abbrev pub signature_count : Bool → ℕ
+signature_count own = cond own 1 4
 
 -- denied, unavail, avail, optional
-abbrev pub stateRank : Bool → State → ℕ
-stateRank own denied = 0
-stateRank own unavail = 1
-stateRank own avail = 2
-stateRank own optional = 2 + signatureCount own
+abbrev pub state_rank : Bool → State → ℕ
+state_rank own denied = 0
+state_rank own unavail = 1
+state_rank own avail = 2
+state_rank own optional = 2 + signature_count own
 
-abbrev pub methodRank : Bool → Method → ℕ
-methodRank own m = stateRank own m.state + signatureRank m.args m.answer
+abbrev pub method_rank : Bool → Method → ℕ
+method_rank own m = state_rank own m.state + signature_rank m.args m.answer
 
 -- methods as digits, the first as the highest; a is the number of those before
-abbrev pub rankFrom : Bool → ℕ → List Method → ℕ
-rankFrom own a [] = a
-rankFrom own a (m ∷ ms) = rankFrom own (a * (2 + 2 * signatureCount own) + methodRank own m) ms
+abbrev pub rank_from : Bool → ℕ → List Method → ℕ
+rank_from own a [] = a
+rank_from own a (m ∷ ms) = rank_from own (a * (2 + 2 * signature_count own) + method_rank own m) ms
 
 -- how many have fewer methods, or as many and own=no where this has own=yes
 abbrev pub before : Bool → List Method → ℕ
@@ -37,4 +37,4 @@ before own (m ∷ n ∷ ms) = cond own 114 14
 
 -- the rank of a table, from 0 on
 unfoldable pub rank : Table → ℕ
-rank t = before (type_at t 0).own_val (type_at t 0).methods + rankFrom (type_at t 0).own_val 0 (type_at t 0).methods
+rank t = before (type_at t 0).own (type_at t 0).methods + rank_from (type_at t 0).own 0 (type_at t 0).methods

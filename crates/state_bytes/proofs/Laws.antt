@@ -9,13 +9,13 @@ use lib.Dec.{ltb}
 use lib.ListN.{length, get_or, length-map, get_or-map, get_or-eq_default}
 use borrow.Author.Tests.{ltb-true, lt-ltb}
 use Rattle.spec_model.specs.Basics.{from, all}
-use Rattle.spec_model.specs.Requests.{noCell, maxCells, maxCalls}
-use Rattle.spec_model.specs.Check.{RawPlace, RawCall, noRawPlace, noRawCall, first_of, stateCodesFit, systemFits, systemOf, codesFit, systemAccepted}
-use Rattle.spec_model.specs.Check.{place_of as placeMeant, call_of as callMeant}
-use Rattle.spec_model.specs.Handed.{placeRecord, callRecord, counted}
+use Rattle.spec_model.specs.Requests.{no_cell, max_cells, max_calls}
+use Rattle.spec_model.specs.Check.{RawPlace, RawCall, no_raw_place, no_raw_call, first_of, state_codes_fit, system_fits, system_of, codes_fit, system_accepted}
+use Rattle.spec_model.specs.Check.{place_of as place_meant, call_of as call_meant}
+use Rattle.spec_model.specs.Handed.{place_record, call_record, counted}
 use Rattle.spec_model.proofs.Rules.{first, second}
 use Rattle.spec_model.proofs.Lists.{from-same, from_first, length_from, map-from}
-use Rattle.spec_model.specs.Crossing.{maxPlaces}
+use Rattle.spec_model.specs.Crossing.{max_places}
 use Rattle.law_model.proofs.Fitting.{all-at}
 use Rattle.table_record.proofs.Lists.{lt-or-ge}
 use Rattle.state_record.specs.declared.Place.{Place}
@@ -26,31 +26,31 @@ use Rattle.state_record.specs.declared.Cells.{Cells}
 use Rattle.state_record.specs.declared.Places.{Places}
 use Rattle.state_record.specs.declared.Calls.{Calls}
 use Rattle.state_record.specs.Whole.{Whole as State}
-use Rattle.state_record.specs.View.{cell_of, place_of, call_of, blankCell, blankPlace, blankCall, rawState}
-use Rattle.state_bytes.specs.Flat.{Flat, countsIn, cellCount, placeCount, callCount, rawCellAt, rawPlaceAt, rawCallAt, rawCells, rawPlaces, rawCalls, rawFlat}
-use Rattle.state_bytes.specs.Records.{placeCodes, callCodes, cellFrom, placeBy, placeFrom, callFrom, up_to, cellsFrom, placesFrom, callsFrom, stateFrom, cellBytes, placeBytes, callBytes}
-use Rattle.state_bytes.specs.Records.{cellRecords, placeRecords, callRecords, CellsTo, PlacesTo, CallsTo}
+use Rattle.state_record.specs.View.{cell_of, place_of, call_of, blank_cell, blank_place, blank_call, raw_state}
+use Rattle.state_bytes.specs.Flat.{Flat, counts_in, cell_count, place_count, call_count, raw_cell_at, raw_place_at, raw_call_at, raw_cells, raw_places, raw_calls, raw_flat}
+use Rattle.state_bytes.specs.Records.{place_codes, call_codes, cell_from, place_by, place_from, call_from, up_to, cells_from, places_from, calls_from, state_from, cell_bytes, place_bytes, call_bytes}
+use Rattle.state_bytes.specs.Records.{cell_records, place_records, call_records, CellsTo, PlacesTo, CallsTo}
 use Rattle.state_bytes.proofs.Filling.{below-least}
 use Rattle.state_bytes.proofs.Rows.{Rows, rows_behind, row_first}
-use Rattle.state_bytes.specs.Flat.{cellSize, placeSize, callSize}
+use Rattle.state_bytes.specs.Flat.{cell_size, place_size, call_size}
 
 -- ---- Written: each record's row is its bytes.
-abbrev pub recOf : PlaceRec → RawPlace
-recOf p = placeRecord (place_of p.place)
+abbrev pub rec_of : PlaceRec → RawPlace
+rec_of p = place_record (place_of p.place)
 
-abbrev pub callRec : Call → RawCall
-callRec c = callRecord (call_of c)
+abbrev pub call_rec : Call → RawCall
+call_rec c = call_record (call_of c)
 
-abbrev pub cellRow : Cells → ℕ → List ℕ
-cellRow cs k = cellBytes (get_or cs.list k blankCell)
+abbrev pub cell_row : Cells → ℕ → List ℕ
+cell_row cs k = cell_bytes (get_or cs.list k blank_cell)
 
-abbrev pub placeRow : Places → ℕ → List ℕ
-placeRow ps p = placeBytes (get_or ps.list p blankPlace).place
+abbrev pub place_row : Places → ℕ → List ℕ
+place_row ps p = place_bytes (get_or ps.list p blank_place).place
 
-abbrev pub callRow : Calls → ℕ → List ℕ
-callRow js j = callBytes (get_or js.list j blankCall)
+abbrev pub call_row : Calls → ℕ → List ℕ
+call_row js j = call_bytes (get_or js.list j blank_call)
 
-pub place-wide : (x : Place) → length (placeBytes x) ≡ 3
+pub place-wide : (x : Place) → length (place_bytes x) ≡ 3
 place-wide (Object c o) = refl
 place-wide (Adapter b t) = refl
 
@@ -66,7 +66,7 @@ next-4 k = omega arith
 pub below-4 : (i k j : ℕ) → i < k → j < 4 → i * 4 + j < k * 4
 below-4 i k j p q = omega arith
 
-place_read : (x : Place) → ◌≡◌ {A = RawPlace} (record { code = get_or (placeBytes x) 0 0; first = get_or (placeBytes x) 1 0; second = get_or (placeBytes x) 2 0 }) (placeRecord (place_of x))
+place_read : (x : Place) → ◌≡◌ {A = RawPlace} (record { code = get_or (place_bytes x) 0 0; first = get_or (place_bytes x) 1 0; second = get_or (place_bytes x) 2 0 }) (place_record (place_of x))
 place_read (Object c o) = refl
 place_read (Adapter b t) = refl
 
@@ -85,28 +85,28 @@ written h d at size n k xs e m are = counted-alike (h d) size n (from size 0 at)
     from_first at size i (h d) q ∙ are i (below-least n size k i m p q) ∙ sym (get_or-map h xs i d))
 
 module _ (old b : List ℕ) (k : ℕ) where
-  pub cells-written : (cs : Cells) → length cs.list ≡ maxCells → k ≡ min cs.count maxCells → k ≤ cs.count → Rows cellSize (cellRow cs) old k b → CellsTo cs old b
-  unfolding rawCells
+  pub cells-written : (cs : Cells) → length cs.list ≡ max_cells → k ≡ min cs.count max_cells → k ≤ cs.count → Rows cell_size (cell_row cs) old k b → CellsTo cs old b
+  unfolding raw_cells
   cells-written cs e m few rows = record {
-    counted = written cell_of blankCell (λ i. rawCellAt b (i * cellSize)) maxCells cs.count k cs.list e m (λ i l.
-        rw (row_first 3 (cellRow cs) old k b rows i l (omega arith), rows.are i l 1 (omega arith), rows.are i l 2 (omega arith)));
-    behind = rows_behind cellSize (cellRow cs) old (cs.count * cellSize) k b (omega (arith, few)) rows;
+    counted = written cell_of blank_cell (λ i. raw_cell_at b (i * cell_size)) max_cells cs.count k cs.list e m (λ i l.
+        rw (row_first 3 (cell_row cs) old k b rows i l (omega arith), rows.are i l 1 (omega arith), rows.are i l 2 (omega arith)));
+    behind = rows_behind cell_size (cell_row cs) old (cs.count * cell_size) k b (omega (arith, few)) rows;
   }
 
-  pub places-written : (ps : Places) → length ps.list ≡ maxPlaces → k ≡ min ps.count maxPlaces → k ≤ ps.count → Rows placeSize (placeRow ps) old k b → PlacesTo ps old b
-  unfolding rawPlaces
+  pub places-written : (ps : Places) → length ps.list ≡ max_places → k ≡ min ps.count max_places → k ≤ ps.count → Rows place_size (place_row ps) old k b → PlacesTo ps old b
+  unfolding raw_places
   places-written ps e m few rows = record {
-    counted = written recOf blankPlace (λ i. rawPlaceAt b (i * placeSize)) maxPlaces ps.count k ps.list e m (λ i l.
-        rw (row_first 3 (placeRow ps) old k b rows i l (omega arith), rows.are i l 1 (omega arith), rows.are i l 2 (omega arith)) (place_read (get_or ps.list i blankPlace).place));
-    behind = rows_behind placeSize (placeRow ps) old (ps.count * placeSize) k b (omega (arith, few)) rows;
+    counted = written rec_of blank_place (λ i. raw_place_at b (i * place_size)) max_places ps.count k ps.list e m (λ i l.
+        rw (row_first 3 (place_row ps) old k b rows i l (omega arith), rows.are i l 1 (omega arith), rows.are i l 2 (omega arith)) (place_read (get_or ps.list i blank_place).place));
+    behind = rows_behind place_size (place_row ps) old (ps.count * place_size) k b (omega (arith, few)) rows;
   }
 
-  pub calls-written : (js : Calls) → length js.list ≡ maxCalls → k ≡ min js.count maxCalls → k ≤ js.count → Rows callSize (callRow js) old k b → CallsTo js old b
-  unfolding rawCalls
+  pub calls-written : (js : Calls) → length js.list ≡ max_calls → k ≡ min js.count max_calls → k ≤ js.count → Rows call_size (call_row js) old k b → CallsTo js old b
+  unfolding raw_calls
   calls-written js e m few rows = record {
-    counted = written callRec blankCall (λ i. rawCallAt b (i * callSize)) maxCalls js.count k js.list e m (λ i l.
-        rw (row_first 4 (callRow js) old k b rows i l (omega arith), rows.are i l 1 (omega arith), rows.are i l 2 (omega arith), rows.are i l 3 (omega arith)));
-    behind = rows_behind callSize (callRow js) old (js.count * callSize) k b (omega (arith, few)) rows;
+    counted = written call_rec blank_call (λ i. raw_call_at b (i * call_size)) max_calls js.count k js.list e m (λ i l.
+        rw (row_first 4 (call_row js) old k b rows i l (omega arith), rows.are i l 1 (omega arith), rows.are i l 2 (omega arith), rows.are i l 3 (omega arith)));
+    behind = rows_behind call_size (call_row js) old (js.count * call_size) k b (omega (arith, few)) rows;
   }
 
 -- ---- Read: counted cells are the records of the bytes; a place or call is so where its code names something.
@@ -115,17 +115,17 @@ read_at : {A : Type 0} (d : A) (f : ℕ → A) (size n k : ℕ) → k < n → k 
 read_at d f size n k p q = from_first (λ k. cond (ltb k n) (f k) d) size k d q ∙ ap (λ (b : Bool). cond b (f k) d) (lt-ltb k n p)
 
 module _ (b : List ℕ) (n k : ℕ) (p : k < n) where
-  pub cell-found : k < maxCells → get_or (cellsFrom b n).list k blankCell ≡ cellFrom b k
-  unfolding cellsFrom
-  cell-found q = read_at blankCell (cellFrom b) maxCells n k p q
+  pub cell-found : k < max_cells → get_or (cells_from b n).list k blank_cell ≡ cell_from b k
+  unfolding cells_from
+  cell-found q = read_at blank_cell (cell_from b) max_cells n k p q
 
-  pub place_found : k < maxPlaces → get_or (placesFrom b n).list k blankPlace ≡ placeFrom b k
-  unfolding placesFrom
-  place_found q = read_at blankPlace (placeFrom b) maxPlaces n k p q
+  pub place_found : k < max_places → get_or (places_from b n).list k blank_place ≡ place_from b k
+  unfolding places_from
+  place_found q = read_at blank_place (place_from b) max_places n k p q
 
-  pub call-found : k < maxCalls → get_or (callsFrom b n).list k blankCall ≡ callFrom b k
-  unfolding callsFrom
-  call-found q = read_at blankCall (callFrom b) maxCalls n k p q
+  pub call-found : k < max_calls → get_or (calls_from b n).list k blank_call ≡ call_from b k
+  unfolding calls_from
+  call-found q = read_at blank_call (call_from b) max_calls n k p q
 
 -- the counted records of an array that was read up to its count, seen through h
 read_first : {A B : Type 0} (h : A → B) (d : A) (f : ℕ → A) (g : ℕ → B) → ((k : ℕ) → h (f k) ≡ g k) → (size n : ℕ) → first_of n (h d) (map h (up_to size n d f)) ≡ first_of n (h d) (from size 0 g)
@@ -133,49 +133,49 @@ read_first h d f g e size n = counted-alike (h d) size n (map h (up_to size n d 
     (length_from g size 0) (λ k p q.
     get_or-map h (up_to size n d f) k d ∙ ap h (read_at d f size n k p q) ∙ e k ∙ sym (from_first g size k (h d) q))
 
-cells-read : (b : List ℕ) (n : ℕ) → first_of n noCell (cellRecords (cellsFrom b n)) ≡ first_of n noCell (rawCells b)
-unfolding cellsFrom rawCells
-cells-read b n = read_first cell_of blankCell (cellFrom b) (λ k. rawCellAt b (k * cellSize)) (λ k. refl) maxCells n
+cells-read : (b : List ℕ) (n : ℕ) → first_of n no_cell (cell_records (cells_from b n)) ≡ first_of n no_cell (raw_cells b)
+unfolding cells_from raw_cells
+cells-read b n = read_first cell_of blank_cell (cell_from b) (λ k. raw_cell_at b (k * cell_size)) (λ k. refl) max_cells n
 
 -- what a code is read as
-abbrev placeAgain : RawPlace → RawPlace
-placeAgain x = placeRecord (placeMeant x)
+abbrev place_again : RawPlace → RawPlace
+place_again x = place_record (place_meant x)
 
-abbrev callAgain : RawCall → RawCall
-callAgain x = callRecord (callMeant x)
+abbrev call_again : RawCall → RawCall
+call_again x = call_record (call_meant x)
 
 -- a code other than 0
-pub is-adapter : (c x y : ℕ) → (c ≡ 0 → ⊥) → Adapter x y ≡ placeBy c x y
+pub is-adapter : (c x y : ℕ) → (c ≡ 0 → ⊥) → Adapter x y ≡ place_by c x y
 is-adapter zero x y h = absurd (h refl)
 is-adapter (suc c) x y h = refl
 
-place-by : (c x y : ℕ) → placeRecord (place_of (placeBy c x y)) ≡ placeAgain (record { code = c; first = x; second = y })
+place-by : (c x y : ℕ) → place_record (place_of (place_by c x y)) ≡ place_again (record { code = c; first = x; second = y })
 place-by zero x y = refl
 place-by (suc c) x y = refl
 
-places-read : (b : List ℕ) (n : ℕ) → first_of n noRawPlace (placeRecords (placesFrom b n)) ≡ first_of n noRawPlace (map placeAgain (rawPlaces b))
-unfolding placesFrom rawPlaces
+places-read : (b : List ℕ) (n : ℕ) → first_of n no_raw_place (place_records (places_from b n)) ≡ first_of n no_raw_place (map place_again (raw_places b))
+unfolding places_from raw_places
 places-read b n =
-    read_first recOf blankPlace (placeFrom b) (λ p. placeAgain (rawPlaceAt b (p * placeSize)))
-    (λ p. place-by (get_or b (p * placeSize) 0) (get_or b (p * placeSize + 1) 0) (get_or b (p * placeSize + 2) 0)) maxPlaces n
-    ∙ ap (first_of n noRawPlace) (sym (map-from placeAgain (λ p. rawPlaceAt b (p * placeSize)) maxPlaces 0))
+    read_first rec_of blank_place (place_from b) (λ p. place_again (raw_place_at b (p * place_size)))
+    (λ p. place-by (get_or b (p * place_size) 0) (get_or b (p * place_size + 1) 0) (get_or b (p * place_size + 2) 0)) max_places n
+    ∙ ap (first_of n no_raw_place) (sym (map-from place_again (λ p. raw_place_at b (p * place_size)) max_places 0))
 
-calls-read : (b : List ℕ) (n : ℕ) → first_of n noRawCall (callRecords (callsFrom b n)) ≡ first_of n noRawCall (map callAgain (rawCalls b))
-unfolding callsFrom rawCalls
-calls-read b n = read_first callRec blankCall (callFrom b) (λ j. callAgain (rawCallAt b (j * callSize))) (λ j. refl) maxCalls n
-    ∙ ap (first_of n noRawCall) (sym (map-from callAgain (λ j. rawCallAt b (j * callSize)) maxCalls 0))
+calls-read : (b : List ℕ) (n : ℕ) → first_of n no_raw_call (call_records (calls_from b n)) ≡ first_of n no_raw_call (map call_again (raw_calls b))
+unfolding calls_from raw_calls
+calls-read b n = read_first call_rec blank_call (call_from b) (λ j. call_again (raw_call_at b (j * call_size))) (λ j. refl) max_calls n
+    ∙ ap (first_of n no_raw_call) (sym (map-from call_again (λ j. raw_call_at b (j * call_size)) max_calls 0))
 
-place_same : (x : RawPlace) → So (ltb x.code 2) → placeAgain x ≡ x
+place_same : (x : RawPlace) → So (ltb x.code 2) → place_again x ≡ x
 place_same x h = go x.code x.first x.second (ltb-true x.code 2 h)
   where
-    go : (c y z : ℕ) → c < 2 → ◌≡◌ {A = RawPlace} (placeAgain (record { code = c; first = y; second = z })) (record { code = c; first = y; second = z })
+    go : (c y z : ℕ) → c < 2 → ◌≡◌ {A = RawPlace} (place_again (record { code = c; first = y; second = z })) (record { code = c; first = y; second = z })
     go zero y z l = refl
     go (suc c) y z l = let e : c ≡ 0 = omega arith in rw e
 
-call_same : (x : RawCall) → So (ltb x.answered 2) → callAgain x ≡ x
+call_same : (x : RawCall) → So (ltb x.answered 2) → call_again x ≡ x
 call_same x h = go x.answered (ltb-true x.answered 2 h)
   where
-    go : (a : ℕ) → a < 2 → ◌≡◌ {A = RawCall} (callAgain (record { caller = x.caller; cell = x.cell; method = x.method; answered = a }))
+    go : (a : ℕ) → a < 2 → ◌≡◌ {A = RawCall} (call_again (record { caller = x.caller; cell = x.cell; method = x.method; answered = a }))
         (record { caller = x.caller; cell = x.cell; method = x.method; answered = a })
     go zero l = refl
     go (suc a) l = let e : a ≡ 0 = omega arith in rw e
@@ -189,37 +189,37 @@ again d h p e same xs n fits = from-same (λ k. get_or (map h xs) k d) (λ k. ge
     (subst (λ x. So (p x)) (from_first (λ i. get_or xs i d) n k d q) (all-at p d (first_of n d xs) fits k (rw (length_from (λ i. get_or xs i d) n 0) q))))
 
 -- every counted code of the state names something
-abbrev pub codesIn : Flat → Bool
-codesIn f = placeCodes f.places (placeCount f.counts) && callCodes f.calls (callCount f.counts)
+abbrev pub codes_in : Flat → Bool
+codes_in f = place_codes f.places (place_count f.counts) && call_codes f.calls (call_count f.counts)
 
 module _ (f : Flat) where
-  codes-are : stateCodesFit (rawFlat f) ≡ codesIn f
-  unfolding stateCodesFit placeCodes callCodes
+  codes-are : state_codes_fit (raw_flat f) ≡ codes_in f
+  unfolding state_codes_fit place_codes call_codes
   codes-are = refl
 
   -- Where the codes fit, the state that is read is the one handed in.
-  pub read-counted : codesIn f ≡ true → counted (rawState (stateFrom f)) ≡ counted (rawFlat f)
-  unfolding counted placeCodes callCodes cellsFrom placesFrom callsFrom
+  pub read-counted : codes_in f ≡ true → counted (raw_state (state_from f)) ≡ counted (raw_flat f)
+  unfolding counted place_codes call_codes cells_from places_from calls_from
   read-counted h =
-      let ps = again noRawPlace placeAgain (λ p. ltb p.code 2) refl place_same (rawPlaces f.places) (placeCount f.counts) (first (placeCodes f.places (placeCount f.counts)) _ h) in
-      let js = again noRawCall callAgain (λ c. ltb c.answered 2) refl call_same (rawCalls f.calls) (callCount f.counts) (second (placeCodes f.places (placeCount f.counts)) _ h) in
-      rw (cells-read f.cells (cellCount f.counts), places-read f.places (placeCount f.counts), calls-read f.calls (callCount f.counts), ps, js)
+      let ps = again no_raw_place place_again (λ p. ltb p.code 2) refl place_same (raw_places f.places) (place_count f.counts) (first (place_codes f.places (place_count f.counts)) _ h) in
+      let js = again no_raw_call call_again (λ c. ltb c.answered 2) refl call_same (raw_calls f.calls) (call_count f.counts) (second (place_codes f.places (place_count f.counts)) _ h) in
+      rw (cells-read f.cells (cell_count f.counts), places-read f.places (place_count f.counts), calls-read f.calls (call_count f.counts), ps, js)
 
   -- Where one does not, the check says so.
-  pub codes-refused : codesIn f ≡ false → systemAccepted (rawFlat f) ≡ false
-  unfolding systemAccepted
-  codes-refused h = go (codesFit (rawFlat f).table) (stateCodesFit (rawFlat f)) (systemFits (systemOf (rawFlat f))) (codes-are ∙ h)
+  pub codes-refused : codes_in f ≡ false → system_accepted (raw_flat f) ≡ false
+  unfolding system_accepted
+  codes-refused h = go (codes_fit (raw_flat f).table) (state_codes_fit (raw_flat f)) (system_fits (system_of (raw_flat f))) (codes-are ∙ h)
     where
       go : (a b c : Bool) → b ≡ false → (a && (b && c)) ≡ false
       go true b c e = rw e
       go false b c e = refl
 
 -- A state that is written back is the one written: its counted records.
-pub written-counted : (s : State) (f : Flat) → f.types ≡ s.types → f.links ≡ s.links → countsIn f.counts ≡ s.counts
-    → (cellCount f.counts ≡ s.cells.count) × (placeCount f.counts ≡ s.places.count) × (callCount f.counts ≡ s.calls.count)
-    → first_of s.cells.count noCell (rawCells f.cells) ≡ first_of s.cells.count noCell (cellRecords s.cells)
-    → first_of s.places.count noRawPlace (rawPlaces f.places) ≡ first_of s.places.count noRawPlace (placeRecords s.places)
-    → first_of s.calls.count noRawCall (rawCalls f.calls) ≡ first_of s.calls.count noRawCall (callRecords s.calls)
-    → counted (rawFlat f) ≡ counted (rawState s)
+pub written-counted : (s : State) (f : Flat) → f.types ≡ s.types → f.links ≡ s.links → counts_in f.counts ≡ s.counts
+    → (cell_count f.counts ≡ s.cells.count) × (place_count f.counts ≡ s.places.count) × (call_count f.counts ≡ s.calls.count)
+    → first_of s.cells.count no_cell (raw_cells f.cells) ≡ first_of s.cells.count no_cell (cell_records s.cells)
+    → first_of s.places.count no_raw_place (raw_places f.places) ≡ first_of s.places.count no_raw_place (place_records s.places)
+    → first_of s.calls.count no_raw_call (raw_calls f.calls) ≡ first_of s.calls.count no_raw_call (call_records s.calls)
+    → counted (raw_flat f) ≡ counted (raw_state s)
 unfolding counted
 written-counted s f t l n m cs ps js = rw (t, l, ← n, m.0, m.1, m.2, cs, ps, js)

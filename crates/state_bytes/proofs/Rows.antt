@@ -7,7 +7,7 @@ use native.Mathlib.Nat.{not-suc-le-zero}
 use native.Mathlib.Omega.{arith}
 use lib.ListN.{length, get_or, set, drop, length-drop}
 use lib.Seq.{sets, length-sets, get_or-drop, ext_get_or}
-use Rattle.table_record.proofs.Lists.{same_or, getD-sets-below, getD-sets-above, getD-sets-in}
+use Rattle.table_record.proofs.Lists.{same_or, get_or-sets-below, get_or-sets-above, get_or-sets-in}
 
 -- four stores, as the code has them
 pub four : (b : List ℕ) (at x₀ x₁ x₂ x₃ : ℕ) → set (set (set (set b at x₀) (at + 1) x₁) (at + 2) x₂) (at + 3) x₃ ≡ sets b at (x₀ ∷ x₁ ∷ x₂ ∷ x₃ ∷ [])
@@ -43,10 +43,10 @@ module _ (w : ℕ) (f : ℕ → List ℕ) (old : List ℕ) where
       long = ap length e ∙ length-sets b (k * w) (f k) ∙ rows.long;
       are = λ i p j q. ap (λ (x : List ℕ). get_or x (i * w + j) 0) e ∙ ⊎_elim
           (λ (s : i ≡ k). subst (λ (v : ℕ). get_or (sets b (k * w) (f k)) (v * w + j) 0 ≡ get_or (f v) j 0) (sym s) (here j q))
-          (λ (s : i ≡ k → ⊥). let l : i < k = omega (arith, p, s) in getD-sets-below b (k * w) (f k) (i * w + j) 0 (below i k j l q) ∙ rows.are i l j q)
+          (λ (s : i ≡ k → ⊥). let l : i < k = omega (arith, p, s) in get_or-sets-below b (k * w) (f k) (i * w + j) 0 (below i k j l q) ∙ rows.are i l j q)
           (same_or i k);
-      behind = λ i p. ap (λ (x : List ℕ). get_or x i 0) e ∙ getD-sets-above b (k * w) (f k) i 0 (omega (arith, p, next k, wide k)) ∙ rows.behind i (omega (arith, p, next k));
+      behind = λ i p. ap (λ (x : List ℕ). get_or x i 0) e ∙ get_or-sets-above b (k * w) (f k) i 0 (omega (arith, p, next k, wide k)) ∙ rows.behind i (omega (arith, p, next k));
     }
       where
         here : (j : ℕ) → j < w → get_or (sets b (k * w) (f k)) (k * w + j) 0 ≡ get_or (f k) j 0
-        here j q = getD-sets-in b (k * w) (f k) j 0 (omega (arith, wide k, q)) (omega (arith, wide k, room, rows.long, l))
+        here j q = get_or-sets-in b (k * w) (f k) j 0 (omega (arith, wide k, q)) (omega (arith, wide k, room, rows.long, l))

@@ -3,13 +3,13 @@
 // limit is the check's to refuse (H1).
 ghost use Rattle.std.specs.Prelude.{◌≡◌, ◌&&◌, List, [], ◌∷◌, ℕ, ◌*◌, ◌<◌, length};
 ghost use Rattle.std.proofs.lemmas.List.Edits.{sets};
-ghost use Rattle.spec_model.specs.Crossing.{maxPlaces};
-ghost use Rattle.spec_model.specs.Requests.{maxCells, maxCalls};
+ghost use Rattle.spec_model.specs.Crossing.{max_places};
+ghost use Rattle.spec_model.specs.Requests.{max_cells, max_calls};
 ghost use Rattle.state_record.specs.Whole.{whole};
-ghost use Rattle.state_bytes.specs.Flat.{flat, countsIn, cellCount, placeCount, callCount, cellSize, placeSize, callSize, cellsSize, placesSize};
-ghost use Rattle.state_bytes.specs.Records.{cellFrom, placeFrom, callFrom, cellsFrom, placesFrom, callsFrom, stateFrom, placeCodes};
-ghost use Rattle.state_bytes.specs.Records.{callCodes, placeBy, cellBytes, placeBytes, callBytes, CellsTo, PlacesTo, CallsTo};
-ghost use Rattle.state_bytes.specs.Flat.{callsSize};
+ghost use Rattle.state_bytes.specs.Flat.{flat, counts_in, cell_count, place_count, call_count, cell_size, place_size, call_size, cells_size, places_size};
+ghost use Rattle.state_bytes.specs.Records.{cell_from, place_from, call_from, cells_from, places_from, calls_from, state_from, place_codes};
+ghost use Rattle.state_bytes.specs.Records.{call_codes, place_by, cell_bytes, place_bytes, call_bytes, CellsTo, PlacesTo, CallsTo};
+ghost use Rattle.state_bytes.specs.Flat.{calls_size};
 
 use base_numbers::{bit_of, least};
 use state_record::{Call, Calls, Cell, Cells, Place, PlaceRec, Places, State};
@@ -30,8 +30,8 @@ pub const CALL_BYTES: usize = State::CALLS * CALL_SIZE;
 
 // A cell (B26).
 pub fn cell_from(b: &[u8; CELL_BYTES], k: usize) -> Cell
-    requires { k < maxCells }
-    ensures { result ≡ cellFrom b.now k }
+    requires { k < max_cells }
+    ensures { result ≡ cell_from b.now k }
 {
     let at = k * CELL_SIZE;
     Cell {
@@ -42,7 +42,7 @@ pub fn cell_from(b: &[u8; CELL_BYTES], k: usize) -> Cell
 }
 
 pub fn cells_from(b: &[u8; CELL_BYTES], count: usize) -> Cells
-    ensures { result ≡ cellsFrom b.now count }
+    ensures { result ≡ cells_from b.now count }
 {
     let blank = Cell {
         holder: 0,
@@ -61,7 +61,7 @@ pub fn cells_from(b: &[u8; CELL_BYTES], count: usize) -> Cells
 
 // A place by its code (B27); a code that names nothing is read as an adapter's, and `codes_fit` refuses it.
 fn place_by(code: u8, first: u8, second: u8) -> Place
-    ensures { result ≡ placeBy code first second }
+    ensures { result ≡ place_by code first second }
 {
     if code == 0 {
         return Place::Object {
@@ -76,8 +76,8 @@ fn place_by(code: u8, first: u8, second: u8) -> Place
 }
 
 pub fn place_from(b: &[u8; PLACE_BYTES], p: usize) -> PlaceRec
-    requires { p < maxPlaces }
-    ensures { result ≡ placeFrom b.now p }
+    requires { p < max_places }
+    ensures { result ≡ place_from b.now p }
 {
     let at = p * PLACE_SIZE;
     let place = place_by(b[at], b[at + 1], b[at + 2]);
@@ -85,7 +85,7 @@ pub fn place_from(b: &[u8; PLACE_BYTES], p: usize) -> PlaceRec
 }
 
 pub fn places_from(b: &[u8; PLACE_BYTES], count: usize) -> Places
-    ensures { result ≡ placesFrom b.now count }
+    ensures { result ≡ places_from b.now count }
 {
     let blank = PlaceRec {
         place: Place::Object { class: 0, owner: 0 },
@@ -102,8 +102,8 @@ pub fn places_from(b: &[u8; PLACE_BYTES], count: usize) -> Places
 
 // A call (B28).
 pub fn call_from(b: &[u8; CALL_BYTES], j: usize) -> Call
-    requires { j < maxCalls }
-    ensures { result ≡ callFrom b.now j }
+    requires { j < max_calls }
+    ensures { result ≡ call_from b.now j }
 {
     let at = j * CALL_SIZE;
     let answered = b[at + 3] == 1;
@@ -116,7 +116,7 @@ pub fn call_from(b: &[u8; CALL_BYTES], j: usize) -> Call
 }
 
 pub fn calls_from(b: &[u8; CALL_BYTES], count: usize) -> Calls
-    ensures { result ≡ callsFrom b.now count }
+    ensures { result ≡ calls_from b.now count }
 {
     let blank = Call {
         caller: 0,
@@ -136,7 +136,7 @@ pub fn calls_from(b: &[u8; CALL_BYTES], count: usize) -> Calls
 
 // Whether every counted place has a code that names something (H2). A count past the array is the check's to refuse.
 fn place_codes(b: &[u8; PLACE_BYTES], count: usize) -> bool
-    ensures { result ≡ placeCodes b.now count }
+    ensures { result ≡ place_codes b.now count }
 {
     let mut p: usize = 0;
     while p < count {
@@ -153,7 +153,7 @@ fn place_codes(b: &[u8; PLACE_BYTES], count: usize) -> bool
 
 // Whether every counted call has an answered flag of 0 or 1 (H2).
 fn call_codes(b: &[u8; CALL_BYTES], count: usize) -> bool
-    ensures { result ≡ callCodes b.now count }
+    ensures { result ≡ call_codes b.now count }
 {
     let mut j: usize = 0;
     while j < count {
@@ -169,7 +169,7 @@ fn call_codes(b: &[u8; CALL_BYTES], count: usize) -> bool
 }
 
 pub fn codes_fit(places: &[u8; PLACE_BYTES], calls: &[u8; CALL_BYTES], pn: usize, cn: usize) -> bool
-    ensures { result ≡ (placeCodes places.now pn && callCodes calls.now cn) }
+    ensures { result ≡ (place_codes places.now pn && call_codes calls.now cn) }
 {
     if !place_codes(places, pn) {
         return false;
@@ -179,21 +179,21 @@ pub fn codes_fit(places: &[u8; PLACE_BYTES], calls: &[u8; CALL_BYTES], pn: usize
 
 // An array that is held has its length, of a lent one nothing says it; the copy goes when these are inlined.
 fn cell_bytes(b: [u8; CELL_BYTES])
-    ensures { length b ≡ cellsSize }
+    ensures { length b ≡ cells_size }
 {}
 
 fn place_bytes(b: [u8; PLACE_BYTES])
-    ensures { length b ≡ placesSize }
+    ensures { length b ≡ places_size }
 {}
 
 fn call_bytes(b: [u8; CALL_BYTES])
-    ensures { length b ≡ callsSize }
+    ensures { length b ≡ calls_size }
 {}
 
 // The bytes of a cell, at its place in the array.
 fn put_cell(b: &mut [u8; CELL_BYTES], k: usize, c: Cell)
-    requires { k < maxCells }
-    ensures { b.new ≡ sets b.old (k * cellSize) (cellBytes c) }
+    requires { k < max_cells }
+    ensures { b.new ≡ sets b.old (k * cell_size) (cell_bytes c) }
 {
     let at = k * CELL_SIZE;
     b[at] = c.holder;
@@ -216,8 +216,8 @@ pub fn cells_to(b: &mut [u8; CELL_BYTES], cs: Cells)
 }
 
 fn put_three(b: &mut [u8; PLACE_BYTES], p: usize, code: u8, first: u8, second: u8)
-    requires { p < maxPlaces }
-    ensures { b.new ≡ sets b.old (p * placeSize) (code ∷ first ∷ second ∷ []) }
+    requires { p < max_places }
+    ensures { b.new ≡ sets b.old (p * place_size) (code ∷ first ∷ second ∷ []) }
 {
     let at = p * PLACE_SIZE;
     b[at] = code;
@@ -227,8 +227,8 @@ fn put_three(b: &mut [u8; PLACE_BYTES], p: usize, code: u8, first: u8, second: u
 
 // The bytes of a place.
 fn put_place(b: &mut [u8; PLACE_BYTES], p: usize, x: Place)
-    requires { p < maxPlaces }
-    ensures { b.new ≡ sets b.old (p * placeSize) (placeBytes x) }
+    requires { p < max_places }
+    ensures { b.new ≡ sets b.old (p * place_size) (place_bytes x) }
 {
     match x {
         Place::Object { class, owner } => put_three(b, p, 0, class, owner),
@@ -253,8 +253,8 @@ pub fn places_to(b: &mut [u8; PLACE_BYTES], ps: Places)
 
 // The bytes of a call.
 fn put_call(b: &mut [u8; CALL_BYTES], j: usize, c: Call)
-    requires { j < maxCalls }
-    ensures { b.new ≡ sets b.old (j * callSize) (callBytes c) }
+    requires { j < max_calls }
+    ensures { b.new ≡ sets b.old (j * call_size) (call_bytes c) }
 {
     let at = j * CALL_SIZE;
     b[at] = c.caller;
@@ -279,7 +279,7 @@ pub fn calls_to(b: &mut [u8; CALL_BYTES], js: Calls)
 
 // The counts of the table of a state (B29).
 pub fn counts_from(counts: [usize; 8]) -> Counts
-    ensures { result ≡ countsIn counts }
+    ensures { result ≡ counts_in counts }
 {
     Counts {
         subjects: counts[0],
@@ -299,7 +299,7 @@ pub fn state_from(
     counts: [usize; 8],
 ) -> State
     ensures { (t : List ℕ)
-        → whole t result ≡ stateFrom (flat t links.now cells.now places.now calls.now counts) }
+        → whole t result ≡ state_from (flat t links.now cells.now places.now calls.now counts) }
 {
     let l = *links;
     let n = counts_from(counts);
@@ -317,7 +317,7 @@ pub fn state_from(
 
 // The counts of a state, in a row (B29).
 pub fn counts_to(c: Counts, cells: usize, places: usize, calls: usize) -> [usize; 8]
-    ensures { (countsIn result ≡ c) × (cellCount result ≡ cells) × (placeCount result ≡ places) × (callCount result ≡ calls) }
+    ensures { (counts_in result ≡ c) × (cell_count result ≡ cells) × (place_count result ≡ places) × (call_count result ≡ calls) }
 {
     [
         c.subjects, c.methods, c.cats, c.sheet, c.types, cells, places, calls,

@@ -1,16 +1,16 @@
 // The check of a state that is handed in (H1 to H11, H17), in its bytes: what crate `state_check` says of the records that stand there, for a caller who makes
 // none of them (offers). One record at a time is read and tested.
 ghost use Rattle.std.specs.Prelude.{◌≡◌, ℕ, ◌≤◌};
-ghost use Rattle.spec_model.specs.Check.{callersFit, systemAccepted};
-ghost use Rattle.spec_model.specs.Crossing.{maxPlaces};
-ghost use Rattle.spec_model.specs.Requests.{maxCells, maxCalls};
-ghost use Rattle.spec_model.specs.Table.{maxSubjects};
+ghost use Rattle.spec_model.specs.Check.{callers_fit, system_accepted};
+ghost use Rattle.spec_model.specs.Crossing.{max_places};
+ghost use Rattle.spec_model.specs.Requests.{max_cells, max_calls};
+ghost use Rattle.spec_model.specs.Table.{max_subjects};
 ghost use Rattle.table_record.specs.Limits.{Limits};
 ghost use Rattle.table_record.specs.Store.{types_in};
-ghost use Rattle.state_record.specs.View.{callsIn, rawState};
-ghost use Rattle.state_bytes.specs.Flat.{flat, rawFlat};
-ghost use Rattle.state_bytes.specs.Records.{cellsFrom, placesFrom, callsFrom, stateFrom};
-ghost use Rattle.state_check.specs.Parts.{cellsAccepted, placesAccepted, callsAccepted, CallersBelow};
+ghost use Rattle.state_record.specs.View.{calls_in, raw_state};
+ghost use Rattle.state_bytes.specs.Flat.{flat, raw_flat};
+ghost use Rattle.state_bytes.specs.Records.{cells_from, places_from, calls_from, state_from};
+ghost use Rattle.state_check.specs.Parts.{cells_accepted, places_accepted, calls_accepted, CallersBelow};
 
 use state_bytes::{CALL_BYTES, CELL_BYTES, PLACE_BYTES};
 use state_record::State;
@@ -24,8 +24,8 @@ fn cells_fit(
     b: &[u8; CELL_BYTES],
     n: usize,
 ) -> bool
-    requires { Limits c × (n ≤ maxCells) }
-    ensures { result ≡ cellsAccepted (types_in types.now) c places (cellsFrom b.now n) }
+    requires { Limits c × (n ≤ max_cells) }
+    ensures { result ≡ cells_accepted (types_in types.now) c places (cells_from b.now n) }
 {
     let mut k: usize = 0;
     while k < n {
@@ -40,8 +40,8 @@ fn cells_fit(
 
 // The counted places (H10).
 fn places_fit(types: &[u8; TYPE_BYTES], c: Counts, b: &[u8; PLACE_BYTES], n: usize) -> bool
-    requires { Limits c × (n ≤ maxPlaces) }
-    ensures { result ≡ placesAccepted (types_in types.now) c (placesFrom b.now n) }
+    requires { Limits c × (n ≤ max_places) }
+    ensures { result ≡ places_accepted (types_in types.now) c (places_from b.now n) }
 {
     let mut p: usize = 0;
     while p < n {
@@ -56,8 +56,8 @@ fn places_fit(types: &[u8; TYPE_BYTES], c: Counts, b: &[u8; PLACE_BYTES], n: usi
 
 // The counted calls (H11), in a state of so many cells.
 fn calls_fit(c: Counts, cells: usize, b: &[u8; CALL_BYTES], n: usize) -> bool
-    requires { n ≤ maxCalls }
-    ensures { result ≡ callsAccepted c cells (callsFrom b.now n) }
+    requires { n ≤ max_calls }
+    ensures { result ≡ calls_accepted c cells (calls_from b.now n) }
 {
     let mut j: usize = 0;
     while j < n {
@@ -72,9 +72,9 @@ fn calls_fit(c: Counts, cells: usize, b: &[u8; CALL_BYTES], n: usize) -> bool
 
 // Nobody made more than 32 of the calls (H17), whose callers are known: they are counted by subject.
 fn callers_fit(b: &[u8; CALL_BYTES], n: usize) -> bool
-    requires { (n ≤ maxCalls) × CallersBelow maxSubjects (callsIn (callsFrom b.now n)) }
-    ensures { (subjects : ℕ) → subjects ≤ maxSubjects → CallersBelow subjects (callsIn (callsFrom b.now n))
-        → result ≡ callersFit subjects (callsIn (callsFrom b.now n)) }
+    requires { (n ≤ max_calls) × CallersBelow max_subjects (calls_in (calls_from b.now n)) }
+    ensures { (subjects : ℕ) → subjects ≤ max_subjects → CallersBelow subjects (calls_in (calls_from b.now n))
+        → result ≡ callers_fit subjects (calls_in (calls_from b.now n)) }
 {
     let mut made = [0usize; Counts::SUBJECTS];
     let mut j: usize = 0;
@@ -100,9 +100,9 @@ fn records_fit(
     counts: &[usize; 8],
 ) -> bool
     ensures { result
-        ≡ systemAccepted
-        (rawState
-        (stateFrom
+        ≡ system_accepted
+        (raw_state
+        (state_from
         (flat types.now links.now cells.now places.now calls.now counts.now))) }
 {
     let cn = counts[5];
@@ -137,8 +137,8 @@ pub fn bytes_fit(
     counts: &[usize; 8],
 ) -> bool
     ensures { result
-        ≡ systemAccepted
-        (rawFlat
+        ≡ system_accepted
+        (raw_flat
         (flat types.now links.now cells.now places.now calls.now counts.now)) }
 {
     if !state_bytes::codes_fit(places, calls, counts[6], counts[7]) {

@@ -1,22 +1,22 @@
 // The check of a state that is handed in (H1 to H11, H17): any counts and any records. Counts first, so that every index is below its array's length, then the
 // table, then cells, places and calls.
 ghost use Rattle.std.specs.Prelude.{◌≡◌, ℕ, ◌≤◌};
-ghost use Rattle.spec_model.specs.Check.{callersFit, systemAccepted};
-ghost use Rattle.spec_model.specs.Crossing.{maxPlaces};
-ghost use Rattle.spec_model.specs.Requests.{maxCells, maxCalls};
-ghost use Rattle.spec_model.specs.Table.{maxSubjects};
+ghost use Rattle.spec_model.specs.Check.{callers_fit, system_accepted};
+ghost use Rattle.spec_model.specs.Crossing.{max_places};
+ghost use Rattle.spec_model.specs.Requests.{max_cells, max_calls};
+ghost use Rattle.spec_model.specs.Table.{max_subjects};
 ghost use Rattle.table_record.specs.Limits.{Limits};
 ghost use Rattle.table_record.specs.Store.{types_in};
 ghost use Rattle.state_record.specs.Whole.{whole};
-ghost use Rattle.state_record.specs.View.{callsIn, rawState};
-ghost use Rattle.state_check.specs.Parts.{cellsAccepted, placesAccepted, callsAccepted, CallersBelow, recordsAccepted};
+ghost use Rattle.state_record.specs.View.{calls_in, raw_state};
+ghost use Rattle.state_check.specs.Parts.{cells_accepted, places_accepted, calls_accepted, CallersBelow, records_accepted};
 
 use state_record::{Calls, Cells, Places, State};
 use table_record::{Counts, TYPE_BYTES};
 
 fn cells_fit(b: &[u8; TYPE_BYTES], c: Counts, places: usize, cs: Cells) -> bool
-    requires { Limits c × (cs.count ≤ maxCells) }
-    ensures { result ≡ cellsAccepted (types_in b.now) c places cs }
+    requires { Limits c × (cs.count ≤ max_cells) }
+    ensures { result ≡ cells_accepted (types_in b.now) c places cs }
 {
     let n = cs.count;
     let mut k: usize = 0;
@@ -31,8 +31,8 @@ fn cells_fit(b: &[u8; TYPE_BYTES], c: Counts, places: usize, cs: Cells) -> bool
 }
 
 fn places_fit(b: &[u8; TYPE_BYTES], c: Counts, ps: Places) -> bool
-    requires { Limits c × (ps.count ≤ maxPlaces) }
-    ensures { result ≡ placesAccepted (types_in b.now) c ps }
+    requires { Limits c × (ps.count ≤ max_places) }
+    ensures { result ≡ places_accepted (types_in b.now) c ps }
 {
     let n = ps.count;
     let mut p: usize = 0;
@@ -47,8 +47,8 @@ fn places_fit(b: &[u8; TYPE_BYTES], c: Counts, ps: Places) -> bool
 }
 
 fn calls_fit(c: Counts, cells: usize, js: Calls) -> bool
-    requires { js.count ≤ maxCalls }
-    ensures { result ≡ callsAccepted c cells js }
+    requires { js.count ≤ max_calls }
+    ensures { result ≡ calls_accepted c cells js }
 {
     let n = js.count;
     let mut j: usize = 0;
@@ -64,8 +64,8 @@ fn calls_fit(c: Counts, cells: usize, js: Calls) -> bool
 
 // Nobody made more than 32 of the calls (H17), whose callers are known: they are counted by subject.
 fn callers_fit(js: Calls) -> bool
-    requires { (js.count ≤ maxCalls) × CallersBelow maxSubjects (callsIn js) }
-    ensures { (subjects : ℕ) → subjects ≤ maxSubjects → CallersBelow subjects (callsIn js) → result ≡ callersFit subjects (callsIn js) }
+    requires { (js.count ≤ max_calls) × CallersBelow max_subjects (calls_in js) }
+    ensures { (subjects : ℕ) → subjects ≤ max_subjects → CallersBelow subjects (calls_in js) → result ≡ callers_fit subjects (calls_in js) }
 {
     let n = js.count;
     let mut made = [0usize; Counts::SUBJECTS];
@@ -83,8 +83,8 @@ fn callers_fit(js: Calls) -> bool
 
 // Cells, places and calls, in a table that is accepted.
 fn records_fit(b: &[u8; TYPE_BYTES], c: Counts, cs: Cells, ps: Places, js: Calls) -> bool
-    requires { Limits c × (cs.count ≤ maxCells) × (ps.count ≤ maxPlaces) × (js.count ≤ maxCalls) }
-    ensures { result ≡ recordsAccepted (types_in b.now) c cs ps js }
+    requires { Limits c × (cs.count ≤ max_cells) × (ps.count ≤ max_places) × (js.count ≤ max_calls) }
+    ensures { result ≡ records_accepted (types_in b.now) c cs ps js }
 {
     let places = ps.count;
     if !cells_fit(b, c, places, cs) {
@@ -102,7 +102,7 @@ fn records_fit(b: &[u8; TYPE_BYTES], c: Counts, cs: Cells, ps: Places, js: Calls
 
 // Whether a state that is handed in is taken.
 pub fn state_fits(types: &[u8; TYPE_BYTES], s: State) -> bool
-    ensures { result ≡ systemAccepted (rawState (whole types.now s)) }
+    ensures { result ≡ system_accepted (raw_state (whole types.now s)) }
 {
     let cs = s.cells;
     let ps = s.places;

@@ -1,20 +1,20 @@
 // The check of a state that is handed in, its parts: one cell (H9), one place (H10), one call (H11), and the counts of them (H1), in a table of any bytes
 // whose counts are within their limits.
 ghost use Rattle.std.specs.Prelude.{◌≡◌, ◌≤◌, ◌<◌, get_or};
-ghost use Rattle.spec_model.specs.Check.{noRawType};
-ghost use Rattle.spec_model.specs.Table.{maxMethods, maxTypes};
+ghost use Rattle.spec_model.specs.Check.{no_raw_type};
+ghost use Rattle.spec_model.specs.Table.{max_methods, max_types};
 ghost use Rattle.table_record.specs.Limits.{Limits};
 ghost use Rattle.table_record.specs.Store.{types_in};
 ghost use Rattle.state_record.specs.View.{cell_of, place_of, call_of};
-ghost use Rattle.state_check_records.specs.Parts.{settledAs, classAs, cellAccepted, objectAccepted, adapterAccepted, placeAccepted, callAccepted, sizesAccepted};
+ghost use Rattle.state_check_records.specs.Parts.{settled_as, class_as, cell_accepted, object_accepted, adapter_accepted, place_accepted, call_accepted, sizes_accepted};
 
 use state_record::{Call, Cell, PlaceRec, State};
 use table_record::{Counts, Method, TYPE_BYTES};
 
 // Whether every method of type i is avail or unavail.
 fn settled(b: &[u8; TYPE_BYTES], methods: usize, i: usize) -> bool
-    requires { (methods ≤ maxMethods) × (i < maxTypes) }
-    ensures { result ≡ settledAs methods (get_or (types_in b.now) i noRawType) }
+    requires { (methods ≤ max_methods) × (i < max_types) }
+    ensures { result ≡ settled_as methods (get_or (types_in b.now) i no_raw_type) }
 {
     let mut j: usize = 0;
     while j < methods {
@@ -29,8 +29,8 @@ fn settled(b: &[u8; TYPE_BYTES], methods: usize, i: usize) -> bool
 
 // Whether type i is a class (T16), in a table of so many methods.
 pub fn is_class(b: &[u8; TYPE_BYTES], methods: usize, i: usize) -> bool
-    requires { (methods ≤ maxMethods) × (i < maxTypes) }
-    ensures { result ≡ classAs methods (get_or (types_in b.now) i noRawType) }
+    requires { (methods ≤ max_methods) × (i < max_types) }
+    ensures { result ≡ class_as methods (get_or (types_in b.now) i no_raw_type) }
 {
     if !table_record::is_ref(b, i) {
         return false;
@@ -44,7 +44,7 @@ pub fn is_class(b: &[u8; TYPE_BYTES], methods: usize, i: usize) -> bool
 // A cell (H9), in a state of so many places.
 pub fn cell_fits(b: &[u8; TYPE_BYTES], c: Counts, places: usize, x: Cell) -> bool
     requires { Limits c }
-    ensures { result ≡ cellAccepted (types_in b.now) c places (cell_of x) }
+    ensures { result ≡ cell_accepted (types_in b.now) c places (cell_of x) }
 {
     if c.subjects <= base_numbers::wide(x.holder) {
         return false;
@@ -62,7 +62,7 @@ pub fn cell_fits(b: &[u8; TYPE_BYTES], c: Counts, places: usize, x: Cell) -> boo
 // An object (H10).
 fn object_fits(b: &[u8; TYPE_BYTES], c: Counts, class: usize, owner: usize) -> bool
     requires { Limits c }
-    ensures { result ≡ objectAccepted (types_in b.now) c class owner }
+    ensures { result ≡ object_accepted (types_in b.now) c class owner }
 {
     if c.subjects <= owner {
         return false;
@@ -76,7 +76,7 @@ fn object_fits(b: &[u8; TYPE_BYTES], c: Counts, class: usize, owner: usize) -> b
 // An adapter at place p (H10).
 fn adapter_fits(b: &[u8; TYPE_BYTES], c: Counts, p: usize, behind: usize, closed: usize) -> bool
     requires { Limits c }
-    ensures { result ≡ adapterAccepted (types_in b.now) c p behind closed }
+    ensures { result ≡ adapter_accepted (types_in b.now) c p behind closed }
 {
     if p <= behind {
         return false;
@@ -89,7 +89,7 @@ fn adapter_fits(b: &[u8; TYPE_BYTES], c: Counts, p: usize, behind: usize, closed
 
 pub fn place_fits(b: &[u8; TYPE_BYTES], c: Counts, p: usize, x: PlaceRec) -> bool
     requires { Limits c }
-    ensures { result ≡ placeAccepted (types_in b.now) c p (place_of x.place) }
+    ensures { result ≡ place_accepted (types_in b.now) c p (place_of x.place) }
 {
     let t = state_places::place_type(x);
     if state_places::is_object(x) {
@@ -100,7 +100,7 @@ pub fn place_fits(b: &[u8; TYPE_BYTES], c: Counts, p: usize, x: PlaceRec) -> boo
 
 // A call (H11), in a state of so many cells.
 pub fn call_fits(c: Counts, cells: usize, x: Call) -> bool
-    ensures { result ≡ callAccepted c cells (call_of x) }
+    ensures { result ≡ call_accepted c cells (call_of x) }
 {
     if c.subjects <= base_numbers::wide(x.caller) {
         return false;
@@ -113,7 +113,7 @@ pub fn call_fits(c: Counts, cells: usize, x: Call) -> bool
 
 // The counts of cells, places and calls (H1).
 pub fn sizes_fit(cells: usize, places: usize, calls: usize) -> bool
-    ensures { result ≡ sizesAccepted cells places calls }
+    ensures { result ≡ sizes_accepted cells places calls }
 {
     if State::CELLS < cells {
         return false;

@@ -1,13 +1,13 @@
 // Whether a cell of a state offers a chain of methods (L15 to L18, E11): so that demand 3 can be watched on what runs. What comes of it is the definition
-// `offersHanded` in specs/Chained.antt.
+// `offers_handed` in specs/Chained.antt.
 ghost use Rattle.std.specs.Prelude.{◌≡◌, List, ℕ};
 ghost use Rattle.table_record.specs.Limits.{Limits};
-ghost use Rattle.table_record.specs.Store.{tableIn};
-ghost use Rattle.state_record.specs.View.{systemIn};
-ghost use Rattle.state_bytes.specs.Flat.{flat, rawFlat};
-ghost use Rattle.state_bytes.specs.Records.{stateFrom};
-ghost use Rattle.state_offers.specs.Chained.{offersNamed, offersHanded, offeredAs};
-ghost use Rattle.state_offers.specs.Steps.{stepCode, permitsNamed, Within};
+ghost use Rattle.table_record.specs.Store.{table_in};
+ghost use Rattle.state_record.specs.View.{system_in};
+ghost use Rattle.state_bytes.specs.Flat.{flat, raw_flat};
+ghost use Rattle.state_bytes.specs.Records.{state_from};
+ghost use Rattle.state_offers.specs.Chained.{offers_named, offers_handed, offered_as};
+ghost use Rattle.state_offers.specs.Steps.{step_code, permits_named, Within};
 
 use base_numbers::wide;
 use state_bytes::{CALL_BYTES, CELL_BYTES, PLACE_BYTES};
@@ -24,7 +24,7 @@ pub enum Offered {
 // One method of a chain, by type t (L16): 0 where it is not permitted; else 1 and the code of its answer type, which is 0 for none.
 fn after_method(types: &[u8; TYPE_BYTES], c: Counts, t: usize, z: i64) -> usize
     requires { Limits c }
-    ensures { (l : List ℕ) → result ≡ stepCode (tableIn types.now l c) t z }
+    ensures { (l : List ℕ) → result ≡ step_code (table_in types.now l c) t z }
 {
     let m = base_numbers::index_of(z, c.methods);
     if c.methods <= m {
@@ -43,7 +43,7 @@ fn after_method(types: &[u8; TYPE_BYTES], c: Counts, t: usize, z: i64) -> usize
 // Whether type t permits a chain: each method by the answer type of the one before (L15 to L17).
 fn type_permits(types: &[u8; TYPE_BYTES], c: Counts, t: usize, chain: &[i64]) -> bool
     requires { Limits c }
-    ensures { (l : List ℕ) → result ≡ permitsNamed (tableIn types.now l c) t chain.now }
+    ensures { (l : List ℕ) → result ≡ permits_named (table_in types.now l c) t chain.now }
 {
     let mut at = t;
     let mut i: usize = 0;
@@ -77,7 +77,7 @@ fn cell_offers(
     requires { Within cells.now counts.now }
     ensures { (l js : List ℕ)
         → result
-        ≡ offersNamed (systemIn (stateFrom (flat types.now l cells.now places.now js counts.now))) cell
+        ≡ offers_named (system_in (state_from (flat types.now l cells.now places.now js counts.now))) cell
         chain.now }
 {
     let n = counts[5];
@@ -107,9 +107,9 @@ pub fn offers(
     cell: i64,
     chain: &[i64],
 ) -> Offered
-    ensures { offeredAs result
-        ≡ offersHanded
-        (rawFlat
+    ensures { offered_as result
+        ≡ offers_handed
+        (raw_flat
         (flat types.now links.now cells.now places.now calls.now counts.now)) cell
         chain.now }
 {

@@ -1,9 +1,9 @@
 // A place of a state and what stands behind it: its type, owner and next place, its base (Q2, Q3), and the types of its adapters down to the class (C9, C19).
 // The records are those of crate `state_record`. What is behind an adapter lies below it (`Descending` there), so that going behind ends.
 ghost use Rattle.std.specs.Prelude.{◌≡◌, ◌<◌};
-ghost use Rattle.spec_model.specs.Crossing.{placeType, ownerOf, baseOwner};
-ghost use Rattle.spec_model.specs.Requests.{adapterCount};
-ghost use Rattle.state_record.specs.View.{place_of, placesIn, isObject, behindOf};
+ghost use Rattle.spec_model.specs.Crossing.{place_type, owner_of, base_owner};
+ghost use Rattle.spec_model.specs.Requests.{adapter_count};
+ghost use Rattle.state_record.specs.View.{place_of, places_in, is_object, behind_of};
 ghost use Rattle.state_record.specs.Sound.{Descending};
 ghost use Rattle.state_places.specs.Behind.{BaseAt, LayersAt};
 
@@ -17,7 +17,7 @@ pub struct Layers {
 }
 
 fn type_in(p: Place) -> u8
-    ensures { result ≡ placeType (place_of p) }
+    ensures { result ≡ place_type (place_of p) }
 {
     match p {
         Place::Object { class, owner: _ } => class,
@@ -26,7 +26,7 @@ fn type_in(p: Place) -> u8
 }
 
 fn owner_in(p: Place) -> u8
-    ensures { result ≡ ownerOf (place_of p) }
+    ensures { result ≡ owner_of (place_of p) }
 {
     match p {
         Place::Object { class: _, owner } => owner,
@@ -38,7 +38,7 @@ fn owner_in(p: Place) -> u8
 }
 
 fn behind_in(p: Place) -> u8
-    ensures { result ≡ behindOf (place_of p) }
+    ensures { result ≡ behind_of (place_of p) }
 {
     match p {
         Place::Object { class: _, owner: _ } => 0,
@@ -47,7 +47,7 @@ fn behind_in(p: Place) -> u8
 }
 
 fn object_in(p: Place) -> bool
-    ensures { result ≡ isObject (place_of p) }
+    ensures { result ≡ is_object (place_of p) }
 {
     match p {
         Place::Object { class: _, owner: _ } => true,
@@ -60,7 +60,7 @@ fn object_in(p: Place) -> bool
 
 // The type of a place (Q3).
 pub fn place_type(p: PlaceRec) -> usize
-    ensures { (result ≡ placeType (place_of p.place)) × (result < 256) }
+    ensures { (result ≡ place_type (place_of p.place)) × (result < 256) }
 {
     let x = p.place;
     base_numbers::wide(type_in(x))
@@ -68,7 +68,7 @@ pub fn place_type(p: PlaceRec) -> usize
 
 // The owner of an object; 0 for an adapter.
 pub fn place_owner(p: PlaceRec) -> usize
-    ensures { (result ≡ ownerOf (place_of p.place)) × (result < 256) }
+    ensures { (result ≡ owner_of (place_of p.place)) × (result < 256) }
 {
     let x = p.place;
     base_numbers::wide(owner_in(x))
@@ -76,14 +76,14 @@ pub fn place_owner(p: PlaceRec) -> usize
 
 // The place behind an adapter; 0 for an object.
 pub fn place_behind(p: PlaceRec) -> usize
-    ensures { (result ≡ behindOf (place_of p.place)) × (result < 256) }
+    ensures { (result ≡ behind_of (place_of p.place)) × (result < 256) }
 {
     let x = p.place;
     base_numbers::wide(behind_in(x))
 }
 
 pub fn is_object(p: PlaceRec) -> bool
-    ensures { result ≡ isObject (place_of p.place) }
+    ensures { result ≡ is_object (place_of p.place) }
 {
     let x = p.place;
     object_in(x)
@@ -103,7 +103,7 @@ pub fn base_of(ps: Places, p: usize) -> usize
 
 pub fn base_owner(ps: Places, p: usize) -> usize
     requires { Descending ps × (p < ps.count) }
-    ensures { (result ≡ baseOwner (placesIn ps) p) × (result < 256) }
+    ensures { (result ≡ base_owner (places_in ps) p) × (result < 256) }
 {
     let base = base_of(ps, p);
     place_owner(state_record::place_at(ps, base))
@@ -133,7 +133,7 @@ pub fn layers_of(ps: Places, p: usize) -> Layers
 // How many adapters stand between place p and its base (C19).
 pub fn adapters_of(ps: Places, p: usize) -> usize
     requires { Descending ps × (p < ps.count) }
-    ensures { result ≡ adapterCount (placesIn ps) p }
+    ensures { result ≡ adapter_count (places_in ps) p }
 {
     let l = layers_of(ps, p);
     l.count - 1

@@ -13,7 +13,7 @@ use denote.Laws.{Is, Tells, Makes, Lawful, Copy}
 use denote.Array.{Array, Array-Lawful}
 use denote.Slice.{Room}
 use denote.Struct.Laws as laws
-use Rattle.spec_model.specs.Requests.{maxCells}
+use Rattle.spec_model.specs.Requests.{max_cells}
 use Rattle.state_record.specs.declared.Cell.{Cell}
 use Rattle.state_record.proofs.Loan.{val}
 use Rattle.state_record.specs.contracts.Cell as cell
@@ -34,10 +34,10 @@ tells = laws.tells cell.the_type cell_laws.the_laws
 
 -- the machine value of the whole array
 abbrev pub lows : List Cell → Val
-lows xs = val R maxCells tt vals tells xs
+lows xs = val R max_cells tt vals tells xs
 
 -- a record has three bytes, so that 256 of them have room, and the address of one that is there is a word
-pub room : (xs : List Cell) → length xs ≡ maxCells → Room R (length xs)
+pub room : (xs : List Cell) → length xs ≡ max_cells → Room R (length xs)
 room xs e = subst (Room R) (sym e) (lit< tt, lit< tt)
 
 pub offset-fits : {k n : ℕ} → n * 3 < 2 ^ 63 → k < n → k * 3 < 2 ^ 64
@@ -52,8 +52,8 @@ module _ {M : Type 1} {𝓤 : Ura M} (𝓛 : Logic 𝓤) where
     abbrev pub lawful : Lawful 𝓛 R
     lawful = laws.lawful cell.the_type cell_laws.the_laws 𝓛
 
-    abbrev pub array : Lawful 𝓛 (Array R maxCells)
-    array = Array-Lawful 𝓛 R lawful maxCells
+    abbrev pub array : Lawful 𝓛 (Array R max_cells)
+    array = Array-Lawful 𝓛 R lawful max_cells
 
     abbrev pub copied : Copy 𝓛 R
     copied = laws.copy cell.the_type cell_laws.the_copy 𝓛

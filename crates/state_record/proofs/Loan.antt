@@ -29,8 +29,8 @@ use denote.Steps.{only, owned}
 use denote.Struct.Steps.{spelt}
 
 module _ (R : RattleType) (n : ℕ) (single : Single R.mir) (vals : R.Denot → List Val) (tells : Tells R (Is R) vals) where
-  abbrev pub arrayTy : Ty
-  arrayTy = ty_array (lone R.mir) n
+  abbrev pub array_ty : Ty
+  array_ty = ty_array (lone R.mir) n
 
   -- the machine value of the array
   abbrev pub val : List R.Denot → Val
@@ -40,7 +40,7 @@ module _ (R : RattleType) (n : ℕ) (single : Single R.mir) (vals : R.Denot → 
     open 𝓛 use {H, A}
 
     abbrev whole : Fml
-    whole = fat full_share arrayTy b o (val xs)
+    whole = fat full_share array_ty b o (val xs)
 
     -- the records one behind the other
     abbrev parts : ℕ → Fml
@@ -50,16 +50,16 @@ module _ (R : RattleType) (n : ℕ) (single : Single R.mir) (vals : R.Denot → 
     unfolding part_of
     apart is =
         qed 𝓛 (‵ whole ∷ []) ∵ owned ! (Array R n) (Is (Array R n)) (Array-Makes 𝓛 R makes n) xs _ is $ move ! (1 ∷ []) $
-        use1 𝓛 (‵ (cell_at full_share (Array R n).mir (val xs ∷ []) b o)) (𝓛.laws.at_raw full_share arrayTy b o (val xs)) $ fjoin ! $
-        fpack ! (List Val) (λ us. fsep (cell_at full_share (Array R n).mir us b o) ((Array R n).own_val xs us)) (val xs ∷ []) $
+        use1 𝓛 (‵ (cell_at full_share (Array R n).mir (val xs ∷ []) b o)) (𝓛.laws.at_raw full_share array_ty b o (val xs)) $ fjoin ! $
+        fpack ! (List Val) (λ us. fsep (cell_at full_share (Array R n).mir us b o) ((Array R n).own xs us)) (val xs ∷ []) $
         by ! (Array-apart 𝓛 R full_share single n xs b o)
 
-    together : ent 𝓤 (sem 𝓛 (parts n)) (sep 𝓤 (sem 𝓛 whole) (sem 𝓛 ((Array R n).own_val xs (val xs ∷ []))))
+    together : ent 𝓤 (sem 𝓛 (parts n)) (sep 𝓤 (sem 𝓛 whole) (sem 𝓛 ((Array R n).own xs (val xs ∷ []))))
     unfolding part_of
     together =
         qed 𝓛 (‵ (parts n) ∷ []) ∵ use1 𝓛 (‵ (part_at (Array R n) full_share xs b o)) (Array-whole 𝓛 R full_share n xs b o) $
         fpick ! (λ us. fsplit ! $ spelt ! (Array R n) (Is (Array R n)) (shows 𝓛 (Array R n)) (array_vals vals) (Array-Tells R vals tells n) full_share xs us b o $
-        use1 𝓛 (‵ whole) (𝓛.laws.raw_at full_share arrayTy b o (val xs)) $ done !)
+        use1 𝓛 (‵ whole) (𝓛.laws.raw_at full_share array_ty b o (val xs)) $ done !)
 
     pub lends : (ℓ : Lifetime) (κ : Lft) → Is (Array R n) xs (val xs ∷ []) → Room R (length xs)
         → ent 𝓤 (sem 𝓛 whole) (H.⇛ (ex 𝓤 (LentShrs 𝓛 R ℓ κ full_share xs b o)))
@@ -70,7 +70,7 @@ module _ (R : RattleType) (n : ℕ) (single : Single R.mir) (vals : R.Denot → 
     pub back : (κ : Lft) → length xs ≡ n → ent 𝓤 (sep 𝓤 (A.dead κ) (A.lent κ (parts (length xs)))) (H.⇛ (sem 𝓛 whole))
     back κ e =
         qed 𝓛 (‵ (fdead κ) ∷ ‵ (flent κ (parts (length xs))) ∷ []) ∵ updating ! $ lent_back ! tt $ fsplit ! $ drop ! $ feq_i ! ℕ (length xs) n e $ fjoin ! $
-        at_once ! $ use1 𝓛 (‵ whole ⊛ ‵ ((Array R n).own_val xs (val xs ∷ []))) together $ split ! $ keep ! (0 ∷ []) $ done !
+        at_once ! $ use1 𝓛 (‵ whole ⊛ ‵ ((Array R n).own xs (val xs ∷ []))) together $ split ! $ keep ! (0 ∷ []) $ done !
 
     pub lends-mut : (ℓ : Lifetime) (κ : Lft) → Is (Array R n) xs (val xs ∷ []) → Room R (length xs)
         → ent 𝓤 (sem 𝓛 whole) (H.⇛ (ex 𝓤 (Lent 𝓛 R ℓ κ xs b o)))
@@ -81,7 +81,7 @@ module _ (R : RattleType) (n : ℕ) (single : Single R.mir) (vals : R.Denot → 
     -- xs is the list that the call left, and m the count that was lent
     pub back-mut : (κ : Lft) (γ : GName) (m : ℕ) → length xs ≡ n
         → ent 𝓤 (sep 𝓤 (A.dead κ) (sep 𝓤 (A.lent κ (Held R m b o γ)) (sem 𝓛 (finally R γ xs))))
-        (H.⇛ (sep 𝓤 (sem 𝓛 whole) (sem 𝓛 ((Array R n).own_val xs (val xs ∷ [])))))
+        (H.⇛ (sep 𝓤 (sem 𝓛 whole) (sem 𝓛 ((Array R n).own xs (val xs ∷ [])))))
     back-mut κ γ m e =
         qed 𝓛 (‵ (fdead κ) ∷ ‵ (flent κ (Held R m b o γ)) ∷ ‵ (finally R γ xs) ∷ []) ∵ updating ! $
         use3 𝓛 (later (‵ ((Arr (mem R) m).own_at xs b o))) (slice_back 𝓛 R κ γ xs m b o) $ await ! tt $ fsplit ! $ drop ! $

@@ -1,11 +1,11 @@
 -- What the records of the code mean: the model's cells, places and calls (Q1, Q4, Q5), and a state as it is handed in.
 use Rattle.std.specs.Prelude.{false, List, map, ℕ, replicate}
-use Rattle.spec_model.specs.Crossing.{Place as Placeᵐ, object, adapter, maxPlaces}
-use Rattle.spec_model.specs.Requests.{Cell as Cellᵐ, Call as Callᵐ, System, maxCells, maxCalls}
-use Rattle.spec_model.specs.Check.{RawSystem, systemOf}
-use Rattle.spec_model.specs.Handed.{placeRecord, callRecord}
+use Rattle.spec_model.specs.Crossing.{Place as Placeᵐ, object, adapter, max_places}
+use Rattle.spec_model.specs.Requests.{Cell as Cellᵐ, Call as Callᵐ, System, max_cells, max_calls}
+use Rattle.spec_model.specs.Check.{RawSystem, system_of}
+use Rattle.spec_model.specs.Handed.{place_record, call_record}
 use Rattle.table_record.specs.declared.Counts.{Counts}
-use Rattle.table_record.specs.Layout.{rawTable}
+use Rattle.table_record.specs.Layout.{raw_table}
 use Rattle.state_record.specs.declared.Cell.{Cell}
 use Rattle.state_record.specs.declared.Place.{Place}
 use Rattle.state_record.specs.declared.Place.TheVariants.{Object, Adapter}
@@ -28,40 +28,40 @@ abbrev pub call_of : Call → Callᵐ
 call_of c = record { caller = c.caller; cell = c.cell; method = c.method; answered = c.answered }
 
 -- what stands past the end of a list of the code's
-abbrev pub blankCell : Cell
-blankCell = record { holder = 0; ty = 0; place = 0 }
+abbrev pub blank_cell : Cell
+blank_cell = record { holder = 0; ty = 0; place = 0 }
 
-abbrev pub blankPlace : PlaceRec
-blankPlace = record { place = Object 0 0 }
+abbrev pub blank_place : PlaceRec
+blank_place = record { place = Object 0 0 }
 
-abbrev pub blankCall : Call
-blankCall = record { caller = 0; cell = 0; method = 0; answered = false }
+abbrev pub blank_call : Call
+blank_call = record { caller = 0; cell = 0; method = 0; answered = false }
 
 -- the state as it is handed in, in records of numbers, and what it means
-abbrev pub rawState : State → RawSystem
-rawState s = record {
-  table = rawTable s.types s.links s.counts;
+abbrev pub raw_state : State → RawSystem
+raw_state s = record {
+  table = raw_table s.types s.links s.counts;
   cells = s.cells.count;
   places = s.places.count;
   calls = s.calls.count;
-  cellRecords = map cell_of s.cells.list;
-  placeRecords = map (λ p. placeRecord (place_of p.place)) s.places.list;
-  callRecords = map (λ c. callRecord (call_of c)) s.calls.list;
+  cell_records = map cell_of s.cells.list;
+  place_records = map (λ p. place_record (place_of p.place)) s.places.list;
+  call_records = map (λ c. call_record (call_of c)) s.calls.list;
 }
 
-unfoldable pub systemIn : State → System
-unfolding systemOf
-systemIn s = systemOf (rawState s)
+unfoldable pub system_in : State → System
+unfolding system_of
+system_in s = system_of (raw_state s)
 
 -- nothing held, made or called yet (Q10)
-abbrev pub noCells : Cells
-noCells = record { list = replicate maxCells blankCell; count = 0 }
+abbrev pub no_cells : Cells
+no_cells = record { list = replicate max_cells blank_cell; count = 0 }
 
-abbrev pub noPlaces : Places
-noPlaces = record { list = replicate maxPlaces blankPlace; count = 0 }
+abbrev pub no_places : Places
+no_places = record { list = replicate max_places blank_place; count = 0 }
 
-abbrev pub noCalls : Calls
-noCalls = record { list = replicate maxCalls blankCall; count = 0 }
+abbrev pub no_calls : Calls
+no_calls = record { list = replicate max_calls blank_call; count = 0 }
 
-abbrev pub stateLoaded : List ℕ → Counts → Rest
-stateLoaded links counts = record { links = links; counts = counts; cells = noCells; places = noPlaces; calls = noCalls }
+abbrev pub state_loaded : List ℕ → Counts → Rest
+state_loaded links counts = record { links = links; counts = counts; cells = no_cells; places = no_places; calls = no_calls }

@@ -11,48 +11,48 @@ use Rattle.state_record.specs.declared.Places.{Places}
 use Rattle.state_record.specs.declared.Calls.{Calls}
 use Rattle.state_record.specs.declared.State.{State as Rest}
 use Rattle.state_record.specs.Whole.{Whole as State}
-pub use Rattle.state_record.specs.Meaning.{cell_of, place_of, call_of, blankCell, blankPlace, blankCall, rawState, noCells, noPlaces, noCalls, stateLoaded}
-unfoldable pub use Rattle.state_record.specs.Meaning.{systemIn}
+pub use Rattle.state_record.specs.Meaning.{cell_of, place_of, call_of, blank_cell, blank_place, blank_call, raw_state, no_cells, no_places, no_calls, state_loaded}
+unfoldable pub use Rattle.state_record.specs.Meaning.{system_in}
 
 -- the counted records as the model's
 unfoldable pub cells_in : Cells → List Cellᵐ
-cells_in cs = from cs.count 0 (λ k. cell_of (get_or cs.list k blankCell))
+cells_in cs = from cs.count 0 (λ k. cell_of (get_or cs.list k blank_cell))
 
-unfoldable pub placesIn : Places → List Placeᵐ
-placesIn ps = from ps.count 0 (λ k. place_of (get_or ps.list k blankPlace).place)
+unfoldable pub places_in : Places → List Placeᵐ
+places_in ps = from ps.count 0 (λ k. place_of (get_or ps.list k blank_place).place)
 
-unfoldable pub callsIn : Calls → List Callᵐ
-callsIn js = from js.count 0 (λ k. call_of (get_or js.list k blankCall))
+unfoldable pub calls_in : Calls → List Callᵐ
+calls_in js = from js.count 0 (λ k. call_of (get_or js.list k blank_call))
 
 -- an object or an adapter; what is behind an adapter
-abbrev pub isObject : Placeᵐ → Bool
-isObject (object class owner) = true
-isObject (adapter behind closed) = false
+abbrev pub is_object : Placeᵐ → Bool
+is_object (object class owner) = true
+is_object (adapter behind closed) = false
 
-abbrev pub behindOf : Placeᵐ → ℕ
-behindOf (object class owner) = 0
-behindOf (adapter behind closed) = behind
+abbrev pub behind_of : Placeᵐ → ℕ
+behind_of (object class owner) = 0
+behind_of (adapter behind closed) = behind
 
 -- One record more (Q6), and a call with its flag (A11): every other stored record as it was.
-abbrev pub cellAdded : Cells → Cell → Cells
-cellAdded cs c = record { list = set cs.list cs.count c; count = cs.count + 1 }
+abbrev pub cell_added : Cells → Cell → Cells
+cell_added cs c = record { list = set cs.list cs.count c; count = cs.count + 1 }
 
-abbrev pub placeAdded : Places → PlaceRec → Places
-placeAdded ps p = record { list = set ps.list ps.count p; count = ps.count + 1 }
+abbrev pub place_added : Places → PlaceRec → Places
+place_added ps p = record { list = set ps.list ps.count p; count = ps.count + 1 }
 
-abbrev pub callAdded : Calls → Call → Calls
-callAdded js c = record { list = set js.list js.count c; count = js.count + 1 }
+abbrev pub call_added : Calls → Call → Calls
+call_added js c = record { list = set js.list js.count c; count = js.count + 1 }
 
-abbrev pub answeredAs : Call → Call
-answeredAs c = record { caller = c.caller; cell = c.cell; method = c.method; answered = true }
+abbrev pub answered_as : Call → Call
+answered_as c = record { caller = c.caller; cell = c.cell; method = c.method; answered = true }
 
-abbrev pub callAnswered : Calls → ℕ → Calls
-callAnswered js j = record { list = set js.list j (answeredAs (get_or js.list j blankCall)); count = js.count }
+abbrev pub call_answered : Calls → ℕ → Calls
+call_answered js j = record { list = set js.list j (answered_as (get_or js.list j blank_call)); count = js.count }
 
 -- other bytes beside the same rest
-abbrev pub withTypes : State → List ℕ → State
-withTypes s b = record { types = b; links = s.links; counts = s.counts; cells = s.cells; places = s.places; calls = s.calls }
+abbrev pub with_types : State → List ℕ → State
+with_types s b = record { types = b; links = s.links; counts = s.counts; cells = s.cells; places = s.places; calls = s.calls }
 
 -- the same rest with other calls
-abbrev pub stateCalls : Rest → Calls → Rest
-stateCalls s js = record { links = s.links; counts = s.counts; cells = s.cells; places = s.places; calls = js }
+abbrev pub state_calls : Rest → Calls → Rest
+state_calls s js = record { links = s.links; counts = s.counts; cells = s.cells; places = s.places; calls = js }

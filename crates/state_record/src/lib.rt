@@ -2,10 +2,10 @@
 // state is handed in. Contracts speak of the model's lists (specs/View.antt); functions take the part that they need, so that the table is not copied.
 // What a place says and what stands behind it is asked in crate `state_places`.
 ghost use Rattle.std.specs.Prelude.{◌≡◌, true, [], ◌∷◌, ◌++◌, ◌≤◌, ◌<◌, length, get_or, set};
-ghost use Rattle.spec_model.specs.Crossing.{placeAt, maxPlaces};
-ghost use Rattle.spec_model.specs.Requests.{noCell, noCall, flagged, maxCells, maxCalls};
-ghost use Rattle.state_record.specs.View.{cell_of, place_of, call_of, cells_in, placesIn, callsIn, blankCell, blankPlace, blankCall};
-ghost use Rattle.state_record.specs.View.{noCells, noPlaces, noCalls, stateLoaded, stateCalls, cellAdded, placeAdded, callAdded, callAnswered};
+ghost use Rattle.spec_model.specs.Crossing.{place_at, max_places};
+ghost use Rattle.spec_model.specs.Requests.{no_cell, no_call, flagged, max_cells, max_calls};
+ghost use Rattle.state_record.specs.View.{cell_of, place_of, call_of, cells_in, places_in, calls_in, blank_cell, blank_place, blank_call};
+ghost use Rattle.state_record.specs.View.{no_cells, no_places, no_calls, state_loaded, state_calls, cell_added, place_added, call_added, call_answered};
 
 use table_record::{Counts, LINK_BYTES};
 
@@ -69,7 +69,7 @@ pub struct State {
 // there is room is asked above them.
 fn lookup(cells: &[Cell], k: usize) -> Cell
     requires { k < length cells.now }
-    ensures { result ≡ get_or cells.now k blankCell }
+    ensures { result ≡ get_or cells.now k blank_cell }
 {
     cells[k]
 }
@@ -83,14 +83,14 @@ fn append(cells: &mut [Cell], count: usize, c: Cell)
 
 // The same for an array by value, which is lent here, so that no caller has a reference to a record.
 fn looked_up(cells: [Cell; State::CELLS], k: usize) -> Cell
-    requires { k < maxCells }
-    ensures { result ≡ get_or cells k blankCell }
+    requires { k < max_cells }
+    ensures { result ≡ get_or cells k blank_cell }
 {
     lookup(&cells, k)
 }
 
 fn appended(cells: [Cell; State::CELLS], count: usize, c: Cell) -> [Cell; State::CELLS]
-    requires { count < maxCells }
+    requires { count < max_cells }
     ensures { result ≡ set cells count c }
 {
     let mut a = cells;
@@ -100,7 +100,7 @@ fn appended(cells: [Cell; State::CELLS], count: usize, c: Cell) -> [Cell; State:
 
 impl Cells {
     pub fn none() -> Self
-        ensures { result ≡ noCells }
+        ensures { result ≡ no_cells }
     {
         let c = Cell {
             holder: 0,
@@ -115,8 +115,8 @@ impl Cells {
 
     // one more cell (Q6)
     pub fn add(self, c: Cell) -> Self
-        requires { self.count < maxCells }
-        ensures { (result ≡ cellAdded self c) × (cells_in result ≡ cells_in self ++ (cell_of c ∷ [])) }
+        requires { self.count < max_cells }
+        ensures { (result ≡ cell_added self c) × (cells_in result ≡ cells_in self ++ (cell_of c ∷ [])) }
     {
         let list = self.list;
         let count = self.count;
@@ -130,7 +130,7 @@ impl Cells {
 
 impl Places {
     pub fn none() -> Self
-        ensures { result ≡ noPlaces }
+        ensures { result ≡ no_places }
     {
         let p = PlaceRec {
             place: Place::Object { class: 0, owner: 0 },
@@ -143,8 +143,8 @@ impl Places {
 
     // one more place (Q6)
     pub fn add(self, p: PlaceRec) -> Self
-        requires { self.count < maxPlaces }
-        ensures { (result ≡ placeAdded self p) × (placesIn result ≡ placesIn self ++ (place_of p.place ∷ [])) }
+        requires { self.count < max_places }
+        ensures { (result ≡ place_added self p) × (places_in result ≡ places_in self ++ (place_of p.place ∷ [])) }
     {
         let mut ps = self;
         let at = ps.count;
@@ -156,7 +156,7 @@ impl Places {
 
 impl Calls {
     pub fn none() -> Self
-        ensures { result ≡ noCalls }
+        ensures { result ≡ no_calls }
     {
         let c = Call {
             caller: 0,
@@ -172,8 +172,8 @@ impl Calls {
 
     // one more call (Q6)
     pub fn add(self, c: Call) -> Self
-        requires { self.count < maxCalls }
-        ensures { (result ≡ callAdded self c) × (callsIn result ≡ callsIn self ++ (call_of c ∷ [])) }
+        requires { self.count < max_calls }
+        ensures { (result ≡ call_added self c) × (calls_in result ≡ calls_in self ++ (call_of c ∷ [])) }
     {
         let mut js = self;
         let at = js.count;
@@ -184,8 +184,8 @@ impl Calls {
 
     // call j is answered: the flag of its record, and nothing else (Q15)
     pub fn answered(self, j: usize) -> Self
-        requires { (j < self.count) × (self.count ≤ maxCalls) }
-        ensures { (result ≡ callAnswered self j) × (callsIn result ≡ set (callsIn self) j (flagged (get_or (callsIn self) j noCall) true)) }
+        requires { (j < self.count) × (self.count ≤ max_calls) }
+        ensures { (result ≡ call_answered self j) × (calls_in result ≡ set (calls_in self) j (flagged (get_or (calls_in self) j no_call) true)) }
     {
         let mut js = self;
         let old = js.list[j];
@@ -212,7 +212,7 @@ impl State {
 
     // the state of a loaded sheet
     pub fn loaded(links: [u8; LINK_BYTES], counts: Counts) -> Self
-        ensures { result ≡ stateLoaded links counts }
+        ensures { result ≡ state_loaded links counts }
     {
         let cells = Cells::none();
         let places = Places::none();
@@ -228,7 +228,7 @@ impl State {
 
     // the same with other calls
     pub fn with_calls(self, calls: Calls) -> Self
-        ensures { result ≡ stateCalls self calls }
+        ensures { result ≡ state_calls self calls }
     {
         let links = self.links;
         let counts = self.counts;
@@ -246,23 +246,23 @@ impl State {
 
 // The record of a cell, of a place and of a call, by its number.
 pub fn cell_at(cs: Cells, k: usize) -> Cell
-    requires { k < maxCells }
-    ensures { (result ≡ get_or cs.list k blankCell) × (k < cs.count → cell_of result ≡ get_or (cells_in cs) k noCell) }
+    requires { k < max_cells }
+    ensures { (result ≡ get_or cs.list k blank_cell) × (k < cs.count → cell_of result ≡ get_or (cells_in cs) k no_cell) }
 {
     let list = cs.list;
     looked_up(list, k)
 }
 
 pub fn place_at(ps: Places, p: usize) -> PlaceRec
-    requires { p < maxPlaces }
-    ensures { (result ≡ get_or ps.list p blankPlace) × (p < ps.count → place_of result.place ≡ placeAt (placesIn ps) p) }
+    requires { p < max_places }
+    ensures { (result ≡ get_or ps.list p blank_place) × (p < ps.count → place_of result.place ≡ place_at (places_in ps) p) }
 {
     ps.list[p]
 }
 
 pub fn call_at(js: Calls, j: usize) -> Call
-    requires { j < maxCalls }
-    ensures { (result ≡ get_or js.list j blankCall) × (j < js.count → call_of result ≡ get_or (callsIn js) j noCall) }
+    requires { j < max_calls }
+    ensures { (result ≡ get_or js.list j blank_call) × (j < js.count → call_of result ≡ get_or (calls_in js) j no_call) }
 {
     js.list[j]
 }

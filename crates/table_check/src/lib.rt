@@ -1,20 +1,20 @@
 // The check of a table that is handed in (H1 to H8, of the table's part), for any bytes and any counts: counts first, so that every index is below its count,
 // then the broader links (both in crate `table_check_links`), then each type with its signatures.
 ghost use Rattle.std.specs.Prelude.{◌≡◌, ◌≤◌, ◌<◌, get_or};
-ghost use Rattle.spec_model.specs.Table.{maxMethods, maxTypes};
-ghost use Rattle.spec_model.specs.Check.{noRawType, tableAccepted};
-ghost use Rattle.spec_model.specs.Records.{argumentSlots};
-ghost use Rattle.table_record.specs.Store.{types_in, rawTable, rawMethod};
+ghost use Rattle.spec_model.specs.Table.{max_methods, max_types};
+ghost use Rattle.spec_model.specs.Check.{no_raw_type, table_accepted};
+ghost use Rattle.spec_model.specs.Records.{argument_slots};
+ghost use Rattle.table_record.specs.Store.{types_in, raw_table, raw_method};
 ghost use Rattle.table_record.specs.Limits.{Limits};
-ghost use Rattle.table_check.specs.Parts.{standsAs, signatureAccepted, methodAccepted};
-ghost use Rattle.table_check.specs.Parts.{methodsAccepted, keyAccepted, headAccepted, boundOf, typeAccepted, typesAccepted, argsAccepted};
+ghost use Rattle.table_check.specs.Parts.{stands_as, signature_accepted, method_accepted};
+ghost use Rattle.table_check.specs.Parts.{methods_accepted, key_accepted, head_accepted, bound_of, type_accepted, types_accepted, args_accepted};
 
 use table_record::{Counts, Head, Key, LINK_BYTES, Method, TYPE_BYTES};
 
 // Whether type a may stand in a signature whose types are the first n (T14).
 fn stands_in(b: &[u8; TYPE_BYTES], n: usize, a: usize) -> bool
-    requires { n ≤ maxTypes }
-    ensures { result ≡ standsAs (types_in b.now) n a }
+    requires { n ≤ max_types }
+    ensures { result ≡ stands_as (types_in b.now) n a }
 {
     if n <= a {
         return false;
@@ -24,8 +24,8 @@ fn stands_in(b: &[u8; TYPE_BYTES], n: usize, a: usize) -> bool
 
 // The argument types of a method.
 fn args_fit(b: &[u8; TYPE_BYTES], n: usize, m: Method) -> bool
-    requires { (n ≤ maxTypes) × (m.count ≤ argumentSlots) }
-    ensures { result ≡ argsAccepted (types_in b.now) n (rawMethod m) }
+    requires { (n ≤ max_types) × (m.count ≤ argument_slots) }
+    ensures { result ≡ args_accepted (types_in b.now) n (raw_method m) }
 {
     let count = base_numbers::wide(m.count);
     let mut i: usize = 0;
@@ -41,8 +41,8 @@ fn args_fit(b: &[u8; TYPE_BYTES], n: usize, m: Method) -> bool
 
 // T13: the arguments and the answer of a signature whose types are the first n.
 fn signature_fits(b: &[u8; TYPE_BYTES], n: usize, m: Method) -> bool
-    requires { n ≤ maxTypes }
-    ensures { result ≡ signatureAccepted (types_in b.now) n (rawMethod m) }
+    requires { n ≤ max_types }
+    ensures { result ≡ signature_accepted (types_in b.now) n (raw_method m) }
 {
     let count = base_numbers::wide(m.count);
     if Counts::ARGUMENTS < count {
@@ -60,8 +60,8 @@ fn signature_fits(b: &[u8; TYPE_BYTES], n: usize, m: Method) -> bool
 
 // T12: only optional and avail have a signature. What stands beside another state is not looked at (H15).
 fn method_fits(b: &[u8; TYPE_BYTES], n: usize, m: Method) -> bool
-    requires { n ≤ maxTypes }
-    ensures { result ≡ methodAccepted (types_in b.now) n (rawMethod m) }
+    requires { n ≤ max_types }
+    ensures { result ≡ method_accepted (types_in b.now) n (raw_method m) }
 {
     if Method::UNAVAIL < m.state {
         return false;
@@ -77,8 +77,8 @@ fn method_fits(b: &[u8; TYPE_BYTES], n: usize, m: Method) -> bool
 
 // The methods of type i, whose signatures hold types below n.
 fn methods_fit(b: &[u8; TYPE_BYTES], i: usize, n: usize, methods: usize) -> bool
-    requires { (i < maxTypes) × (n ≤ maxTypes) × (methods ≤ maxMethods) }
-    ensures { result ≡ methodsAccepted (types_in b.now) n methods (get_or (types_in b.now) i noRawType) }
+    requires { (i < max_types) × (n ≤ max_types) × (methods ≤ max_methods) }
+    ensures { result ≡ methods_accepted (types_in b.now) n methods (get_or (types_in b.now) i no_raw_type) }
 {
     let mut j: usize = 0;
     while j < methods {
@@ -92,7 +92,7 @@ fn methods_fit(b: &[u8; TYPE_BYTES], i: usize, n: usize, methods: usize) -> bool
 
 // T17: only a derived type has a kind, a left and a right.
 fn key_fits(h: Head, c: Counts, i: usize) -> bool
-    ensures { result ≡ keyAccepted c i h }
+    ensures { result ≡ key_accepted c i h }
 {
     if i < c.sheet {
         return true;
@@ -107,7 +107,7 @@ fn key_fits(h: Head, c: Counts, i: usize) -> bool
 }
 
 fn head_fits(h: Head, c: Counts, i: usize) -> bool
-    ensures { result ≡ headAccepted c i h }
+    ensures { result ≡ head_accepted c i h }
 {
     if Head::W64 < h.rep {
         return false;
@@ -121,7 +121,7 @@ fn head_fits(h: Head, c: Counts, i: usize) -> bool
 // T15: the types that may stand in the signatures of type i are the first so many.
 fn bound(c: Counts, i: usize) -> usize
     requires { Limits c }
-    ensures { (result ≡ boundOf c i) × (result ≤ maxTypes) }
+    ensures { (result ≡ bound_of c i) × (result ≤ max_types) }
 {
     if i < c.sheet {
         return c.sheet;
@@ -132,7 +132,7 @@ fn bound(c: Counts, i: usize) -> usize
 // Type i: a number type has neither own flag nor methods (T11).
 fn type_fits(b: &[u8; TYPE_BYTES], c: Counts, i: usize) -> bool
     requires { Limits c × (i < c.types) }
-    ensures { result ≡ typeAccepted (types_in b.now) c i (get_or (types_in b.now) i noRawType) }
+    ensures { result ≡ type_accepted (types_in b.now) c i (get_or (types_in b.now) i no_raw_type) }
 {
     let h = table_record::get_head(b, i);
     if !head_fits(h, c, i) {
@@ -149,7 +149,7 @@ fn type_fits(b: &[u8; TYPE_BYTES], c: Counts, i: usize) -> bool
 
 fn types_fit(b: &[u8; TYPE_BYTES], c: Counts) -> bool
     requires { Limits c }
-    ensures { result ≡ typesAccepted (types_in b.now) c }
+    ensures { result ≡ types_accepted (types_in b.now) c }
 {
     let n = c.types;
     let mut i: usize = 0;
@@ -164,7 +164,7 @@ fn types_fit(b: &[u8; TYPE_BYTES], c: Counts) -> bool
 
 // Whether a table that is handed in is taken: b the bytes of the types, l those of the broader links.
 pub fn table_fits(b: &[u8; TYPE_BYTES], l: &[u8; LINK_BYTES], c: Counts) -> bool
-    ensures { result ≡ tableAccepted (rawTable b.now l.now c) }
+    ensures { result ≡ table_accepted (raw_table b.now l.now c) }
 {
     if !table_check_links::counts_fit(c) {
         return false;

@@ -8,7 +8,7 @@ use native.Mathlib.Numerals.{add-one}
 use native.Mathlib.Omega.{arith}
 use lib.ListN.{length, get_or, take}
 use Rattle.spec_model.specs.Basics.{all, every, from}
-use Rattle.table_check_links.specs.Parts.{eachFrom}
+use Rattle.table_check_links.specs.Parts.{each_from}
 
 -- Conjunctions in another order.
 pub left_comm : (a b c : Bool) → (a && (b && c)) ≡ (b && (a && c))
@@ -28,32 +28,32 @@ under-and false b c h = refl
 
 -- `all` and `every` over the values of a rule
 module _ {A : Type 0} (g : ℕ → A) where
-  pub all-each : (p : A → Bool) (c i : ℕ) → all p (from c i g) ≡ eachFrom c i (λ k. p (g k))
-  unfolding from eachFrom
+  pub all-each : (p : A → Bool) (c i : ℕ) → all p (from c i g) ≡ each_from c i (λ k. p (g k))
+  unfolding from each_from
   all-each p zero i = refl
   all-each p (suc c) i = ap (λ (x : Bool). p (g i) && x) (all-each p c (suc i))
 
-  pub every-each : (p : ℕ → A → Bool) (c i : ℕ) → every p i (from c i g) ≡ eachFrom c i (λ k. p k (g k))
-  unfolding from eachFrom
+  pub every-each : (p : ℕ → A → Bool) (c i : ℕ) → every p i (from c i g) ≡ each_from c i (λ k. p k (g k))
+  unfolding from each_from
   every-each p zero i = refl
   every-each p (suc c) i = ap (λ (x : Bool). p i (g i) && x) (every-each p c (suc i))
 
-pub each_and : (f g : ℕ → Bool) (c i : ℕ) → (eachFrom c i f && eachFrom c i g) ≡ eachFrom c i (λ k. f k && g k)
-unfolding eachFrom
+pub each_and : (f g : ℕ → Bool) (c i : ℕ) → (each_from c i f && each_from c i g) ≡ each_from c i (λ k. f k && g k)
+unfolding each_from
 each_and f g zero i = refl
-each_and f g (suc c) i = interchange (f i) (eachFrom c (suc i) f) (g i) (eachFrom c (suc i) g) ∙ ap (λ (x : Bool). (f i && g i) && x) (each_and f g c (suc i))
+each_and f g (suc c) i = interchange (f i) (each_from c (suc i) f) (g i) (each_from c (suc i) g) ∙ ap (λ (x : Bool). (f i && g i) && x) (each_and f g c (suc i))
 
-pub each_same : (f g : ℕ → Bool) → ((k : ℕ) → f k ≡ g k) → (c i : ℕ) → eachFrom c i f ≡ eachFrom c i g
-unfolding eachFrom
+pub each_same : (f g : ℕ → Bool) → ((k : ℕ) → f k ≡ g k) → (c i : ℕ) → each_from c i f ≡ each_from c i g
+unfolding each_from
 each_same f g h zero i = refl
 each_same f g h (suc c) i = rw (h i, each_same f g h c (suc i))
 
 -- the first c elements of a list, by their numbers
-pub all_take : (p : ℕ → Bool) (c : ℕ) (xs : List ℕ) → c ≤ length xs → all p (take c xs) ≡ eachFrom c 0 (λ k. p (get_or xs k 0))
-unfolding eachFrom
+pub all_take : (p : ℕ → Bool) (c : ℕ) (xs : List ℕ) → c ≤ length xs → all p (take c xs) ≡ each_from c 0 (λ k. p (get_or xs k 0))
+unfolding each_from
 all_take p c xs h = go c xs 0 (λ k. p (get_or xs k 0)) h (λ k l. let e : 0 + k ≡ k = omega arith in ap (λ (n : ℕ). p (get_or xs n 0)) e)
   where
-    go : (c : ℕ) (xs : List ℕ) (i : ℕ) (f : ℕ → Bool) → c ≤ length xs → ((k : ℕ) → k < c → f (i + k) ≡ p (get_or xs k 0)) → all p (take c xs) ≡ eachFrom c i f
+    go : (c : ℕ) (xs : List ℕ) (i : ℕ) (f : ℕ → Bool) → c ≤ length xs → ((k : ℕ) → k < c → f (i + k) ≡ p (get_or xs k 0)) → all p (take c xs) ≡ each_from c i f
     go zero xs i f h e = refl
     go (suc c) [] i f h e = absurd (not-suc-le-zero h)
     go (suc c) (x ∷ xs) i f h e =
@@ -63,14 +63,14 @@ all_take p c xs h = go c xs 0 (λ k. p (get_or xs k 0)) h (λ k l. let e : 0 + k
 
 -- A loop over the numbers below n, at i: what is left of the test.
 module _ (f : ℕ → Bool) (n i : ℕ) where
-  pub rest-next : i < n → f i ≡ true → eachFrom (n - i) i f ≡ eachFrom (n - (i + 1)) (i + 1) f
-  unfolding eachFrom
+  pub rest-next : i < n → f i ≡ true → each_from (n - i) i f ≡ each_from (n - (i + 1)) (i + 1) f
+  unfolding each_from
   rest-next h e = let s : n - i ≡ suc (n - (i + 1)) = omega arith in rw (s, e, add-one i)
 
-  pub rest-broken : i < n → f i ≡ false → eachFrom (n - i) i f ≡ false
-  unfolding eachFrom
+  pub rest-broken : i < n → f i ≡ false → each_from (n - i) i f ≡ false
+  unfolding each_from
   rest-broken h e = let s : n - i ≡ suc (n - (i + 1)) = omega arith in rw (s, e)
 
-  pub rest_end : n ≤ i → eachFrom (n - i) i f ≡ true
-  unfolding eachFrom
+  pub rest_end : n ≤ i → each_from (n - i) i f ≡ true
+  unfolding each_from
   rest_end h = let s : n - i ≡ 0 = omega arith in rw s

@@ -4,9 +4,9 @@ use mathlib.Core.Bool.{Bool, true, false, not, ◌&&◌, ◌||◌, and-true}
 use Prim.Native.Nat.{ℕ, ◌≤◌, ◌<◌}
 use lib.Dec.{eqb, ltb}
 use borrow.Author.Tests.{lt-ltb, le-ltb, eq-eqb, ne_eqb, not-true, not-false}
-use Rattle.spec_model.specs.Table.{between, linksFit}
-use Rattle.spec_model.specs.Check.{RawLinks, linksOf}
-use Rattle.table_check_links.specs.Parts.{linkAccepted}
+use Rattle.spec_model.specs.Table.{between, links_fit}
+use Rattle.spec_model.specs.Check.{RawLinks, links_of}
+use Rattle.table_check_links.specs.Parts.{link_accepted}
 
 -- A test in an `if`, and the part of the check that it stands for.
 pub refused : (r x : Bool) → r ≡ x → not r ≡ true → x ≡ false
@@ -29,27 +29,27 @@ pub leaves : (a b r : Bool) → a ≡ false → r ≡ b → r ≡ (a || b)
 leaves a b r e f = rw e f
 
 -- The links of category k: n of them, a and d.
-abbrev pub linksBy : ℕ → ℕ → ℕ → RawLinks
-linksBy n a d = record { count = n; first = a; second = d }
+abbrev pub links_by : ℕ → ℕ → ℕ → RawLinks
+links_by n a d = record { count = n; first = a; second = d }
 
 -- the numbers as they are read, and the record
-pub links-eq : (n a d : ℕ) (x y : RawLinks) → n ≡ x.count → a ≡ x.first → d ≡ x.second → x ≡ y → linksBy n a d ≡ y
-links-eq n a d x y p q r e = ap (λ (z : ℕ). linksBy z a d) p ∙ ap (λ (z : ℕ). linksBy x.count z d) q ∙ ap (linksBy x.count x.first) r ∙ e
+pub links-eq : (n a d : ℕ) (x y : RawLinks) → n ≡ x.count → a ≡ x.first → d ≡ x.second → x ≡ y → links_by n a d ≡ y
+links-eq n a d x y p q r e = ap (λ (z : ℕ). links_by z a d) p ∙ ap (λ (z : ℕ). links_by x.count z d) q ∙ ap (links_by x.count x.first) r ∙ e
 
 module _ (k n a d : ℕ) where
-  pub link-count : between 1 2 n ≡ false → false ≡ linkAccepted k (linksBy n a d)
+  pub link-count : between 1 2 n ≡ false → false ≡ link_accepted k (links_by n a d)
   link-count e = ends (between 1 2 n) _ e
 
   module _ (e : between 1 2 n ≡ true) where
-    pub link-high : k ≤ a → false ≡ linkAccepted k (linksBy n a d)
+    pub link-high : k ≤ a → false ≡ link_accepted k (links_by n a d)
     link-high h = goes (between 1 2 n) _ _ e (go (eqb n 2) refl)
       where
-        go : (t : Bool) → eqb n 2 ≡ t → false ≡ linksFit k (linksOf (linksBy n a d))
+        go : (t : Bool) → eqb n 2 ≡ t → false ≡ links_fit k (links_of (links_by n a d))
         go true f = rw f (ends (ltb a k) _ (le-ltb a k h))
         go false f = rw f (ends (ltb a k) _ (le-ltb a k h))
 
-    pub link-two : a < k → n ≡ 2 → ltb d k ≡ linkAccepted k (linksBy n a d)
+    pub link-two : a < k → n ≡ 2 → ltb d k ≡ link_accepted k (links_by n a d)
     link-two h f = goes (between 1 2 n) _ _ e (rw (eq-eqb n 2 f) (goes (ltb a k) _ _ (lt-ltb a k h) (sym (and-true (ltb d k)))))
 
-    pub link-one : a < k → (n ≡ 2 → ⊥) → true ≡ linkAccepted k (linksBy n a d)
+    pub link-one : a < k → (n ≡ 2 → ⊥) → true ≡ link_accepted k (links_by n a d)
     link-one h f = goes (between 1 2 n) _ _ e (rw (ne_eqb n 2 f) (goes (ltb a k) _ _ (lt-ltb a k h) refl))

@@ -1,9 +1,9 @@
 // The check of a table that is handed in, its first part: counts within their limits (H1), and broader links that fall (H5), for any bytes and any counts.
 ghost use Rattle.std.specs.Prelude.{◌≡◌, suc, ◌≤◌, ◌<◌, get_or};
-ghost use Rattle.spec_model.specs.Table.{between, maxCategories};
-ghost use Rattle.spec_model.specs.Check.{noRawLinks};
-ghost use Rattle.table_record.specs.Store.{linksIn};
-ghost use Rattle.table_check_links.specs.Parts.{countsAccepted, linkAccepted, linksAccepted};
+ghost use Rattle.spec_model.specs.Table.{between, max_categories};
+ghost use Rattle.spec_model.specs.Check.{no_raw_links};
+ghost use Rattle.table_record.specs.Store.{links_in};
+ghost use Rattle.table_check_links.specs.Parts.{counts_accepted, link_accepted, links_accepted};
 
 use table_record::{Counts, LINK_BYTES};
 
@@ -18,7 +18,7 @@ fn within(low: usize, high: usize, n: usize) -> bool
 }
 
 pub fn counts_fit(c: Counts) -> bool
-    ensures { result ≡ countsAccepted c }
+    ensures { result ≡ counts_accepted c }
 {
     if !within(1, Counts::SUBJECTS, c.subjects) {
         return false;
@@ -40,8 +40,8 @@ pub fn counts_fit(c: Counts) -> bool
 
 // T6: category k names one or two categories below it.
 fn link_fits(l: &[u8; LINK_BYTES], k: usize) -> bool
-    requires { k < suc maxCategories }
-    ensures { result ≡ linkAccepted k (get_or (linksIn l.now) k noRawLinks) }
+    requires { k < suc max_categories }
+    ensures { result ≡ link_accepted k (get_or (links_in l.now) k no_raw_links) }
 {
     let x = table_record::get_links(l, k);
     let count = base_numbers::wide(x.count);
@@ -60,8 +60,8 @@ fn link_fits(l: &[u8; LINK_BYTES], k: usize) -> bool
 }
 
 pub fn links_fit(l: &[u8; LINK_BYTES], cats: usize) -> bool
-    requires { cats ≤ maxCategories }
-    ensures { result ≡ linksAccepted cats (linksIn l.now) }
+    requires { cats ≤ max_categories }
+    ensures { result ≡ links_accepted cats (links_in l.now) }
 {
     let mut k: usize = 1;
     while k < cats + 1 {

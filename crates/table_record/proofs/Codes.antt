@@ -6,10 +6,10 @@ use Prim.Native.Nat.{ℕ, zero, suc, ◌-◌, ◌≤◌, ◌<◌}
 use native.Mathlib.Omega.{arith}
 use lib.Dec.{eqb}
 use borrow.Author.Tests.{ne_eqb}
-use Rattle.spec_model.specs.Table.{unavail, isRef, permit, isAvail, closed}
-use Rattle.spec_model.specs.Check.{RawType, state_of, repOf, kind_of, answer_of}
-use Rattle.spec_model.specs.Records.{stateCode}
-use Rattle.table_record.specs.Store.{mayStandAs}
+use Rattle.spec_model.specs.Table.{unavail, is_ref, permit, is_avail, closed}
+use Rattle.spec_model.specs.Check.{RawType, state_of, rep_of, kind_of, answer_of}
+use Rattle.spec_model.specs.Records.{state_code}
+use Rattle.table_record.specs.Store.{may_stand_as}
 
 pub permit-code : (x : ℕ) → (x ≡ 1 → ⊥) → eqb x 2 ≡ permit (state_of x)
 permit-code zero h = refl
@@ -17,17 +17,17 @@ permit-code (suc zero) h = absurd (h refl)
 permit-code (suc (suc zero)) h = refl
 permit-code (suc (suc (suc x))) h = ne_eqb (suc (suc (suc x))) 2 (λ e. let w : suc (suc (suc x)) ≡ 2 = e in omega arith)
 
-pub number-rep : (r : ℕ) → (r ≡ 0 → ⊥) → isRef (repOf r) ≡ false
+pub number-rep : (r : ℕ) → (r ≡ 0 → ⊥) → is_ref (rep_of r) ≡ false
 number-rep zero p = absurd (p refl)
 number-rep (suc zero) p = refl
 number-rep (suc (suc r)) p = refl
 
-pub rep-code : (r : ℕ) → eqb r 0 ≡ isRef (repOf r)
+pub rep-code : (r : ℕ) → eqb r 0 ≡ is_ref (rep_of r)
 rep-code zero = refl
 rep-code (suc zero) = refl
 rep-code (suc (suc r)) = ne_eqb (suc (suc r)) 0 (λ e. let w : suc (suc r) ≡ 0 = e in omega arith)
 
-pub state-back : (s : ℕ) → s < 4 → stateCode (state_of s) ≡ s
+pub state-back : (s : ℕ) → s < 4 → state_code (state_of s) ≡ s
 state-back zero h = refl
 state-back (suc zero) h = refl
 state-back (suc (suc zero)) h = refl
@@ -40,7 +40,7 @@ state-high (suc zero) h = absurd (omega arith)
 state-high (suc (suc zero)) h = absurd (omega arith)
 state-high (suc (suc (suc x))) h = refl
 
-pub not-avail : (y : ℕ) → (y ≡ 2 → ⊥) → isAvail (state_of y) ≡ false
+pub not-avail : (y : ℕ) → (y ≡ 2 → ⊥) → is_avail (state_of y) ≡ false
 not-avail zero h = refl
 not-avail (suc zero) h = refl
 not-avail (suc (suc zero)) h = absurd (h refl)
@@ -56,13 +56,13 @@ closed-kind zero p q = absurd (p refl)
 closed-kind (suc zero) p q = absurd (q refl)
 closed-kind (suc (suc k)) p q = refl
 
-pub ref-rep : (r : ℕ) → r ≡ 0 → isRef (repOf r) ≡ true
-ref-rep r e = ap (λ (n : ℕ). isRef (repOf n)) e
+pub ref-rep : (r : ℕ) → r ≡ 0 → is_ref (rep_of r) ≡ true
+ref-rep r e = ap (λ (n : ℕ). is_ref (rep_of n)) e
 
 -- A number type may stand in a signature; a reference type by its own flag.
 module _ (x : RawType) where
-  pub number-stands : (x.rep ≡ 0 → ⊥) → true ≡ mayStandAs x
+  pub number-stands : (x.rep ≡ 0 → ⊥) → true ≡ may_stand_as x
   number-stands h = rw (number-rep x.rep h)
 
-  pub reference-stands : x.rep ≡ 0 → not (eqb x.own 1) ≡ mayStandAs x
+  pub reference-stands : x.rep ≡ 0 → not (eqb x.own 1) ≡ may_stand_as x
   reference-stands e = rw (ref-rep x.rep e)

@@ -41,23 +41,23 @@ module _ {A : Type 0} where
       let e : suc i + length xs ≡ i + suc (length xs) = omega arith in
       sets-append (set l i x) (suc i) xs ys ∙ ap (λ (k : ℕ). sets (sets (set l i x) (suc i) xs) k ys) e
 
-  pub getD-sets-below : (l : List A) (i : ℕ) (vs : List A) (j : ℕ) (d : A) → j < i → get_or (sets l i vs) j d ≡ get_or l j d
-  getD-sets-below l i [] j d h = refl
-  getD-sets-below l i (v ∷ vs) j d h = getD-sets-below (set l i v) (suc i) vs j d (omega arith) ∙ get_or-set_other l i j v d (λ e. omega arith)
+  pub get_or-sets-below : (l : List A) (i : ℕ) (vs : List A) (j : ℕ) (d : A) → j < i → get_or (sets l i vs) j d ≡ get_or l j d
+  get_or-sets-below l i [] j d h = refl
+  get_or-sets-below l i (v ∷ vs) j d h = get_or-sets-below (set l i v) (suc i) vs j d (omega arith) ∙ get_or-set_other l i j v d (λ e. omega arith)
 
-  pub getD-sets-above : (l : List A) (i : ℕ) (vs : List A) (j : ℕ) (d : A) → i + length vs ≤ j → get_or (sets l i vs) j d ≡ get_or l j d
-  getD-sets-above l i [] j d h = refl
-  getD-sets-above l i (v ∷ vs) j d h = getD-sets-above (set l i v) (suc i) vs j d (omega arith) ∙ get_or-set_other l i j v d (λ e. omega arith)
+  pub get_or-sets-above : (l : List A) (i : ℕ) (vs : List A) (j : ℕ) (d : A) → i + length vs ≤ j → get_or (sets l i vs) j d ≡ get_or l j d
+  get_or-sets-above l i [] j d h = refl
+  get_or-sets-above l i (v ∷ vs) j d h = get_or-sets-above (set l i v) (suc i) vs j d (omega arith) ∙ get_or-set_other l i j v d (λ e. omega arith)
 
-  pub getD-sets-in : (l : List A) (i : ℕ) (vs : List A) (k : ℕ) (d : A) → k < length vs → i + length vs ≤ length l → get_or (sets l i vs) (i + k) d ≡ get_or vs k d
-  getD-sets-in l i [] k d h f = absurd (not-suc-le-zero h)
-  getD-sets-in l i (v ∷ vs) zero d h f =
+  pub get_or-sets-in : (l : List A) (i : ℕ) (vs : List A) (k : ℕ) (d : A) → k < length vs → i + length vs ≤ length l → get_or (sets l i vs) (i + k) d ≡ get_or vs k d
+  get_or-sets-in l i [] k d h f = absurd (not-suc-le-zero h)
+  get_or-sets-in l i (v ∷ vs) zero d h f =
       let e : i + 0 ≡ i = omega arith in
-      ap (λ (m : ℕ). get_or (sets (set l i v) (suc i) vs) m d) e ∙ getD-sets-below (set l i v) (suc i) vs i d (omega arith) ∙ get_or-set_same l i v d (omega arith)
-  getD-sets-in l i (v ∷ vs) (suc k) d h f =
+      ap (λ (m : ℕ). get_or (sets (set l i v) (suc i) vs) m d) e ∙ get_or-sets-below (set l i v) (suc i) vs i d (omega arith) ∙ get_or-set_same l i v d (omega arith)
+  get_or-sets-in l i (v ∷ vs) (suc k) d h f =
       let e : i + suc k ≡ suc i + k = omega arith in
       let g : suc i + length vs ≤ length (set l i v) = rw length-set (omega arith) in
-      ap (λ (m : ℕ). get_or (sets (set l i v) (suc i) vs) m d) e ∙ getD-sets-in (set l i v) (suc i) vs k d (le_of_suc-le-suc h) g
+      ap (λ (m : ℕ). get_or (sets (set l i v) (suc i) vs) m d) e ∙ get_or-sets-in (set l i v) (suc i) vs k d (le_of_suc-le-suc h) g
 
 -- Three, six and seven stores, as the code has them.
 pub three : (b : List ℕ) (at x₀ x₁ x₂ : ℕ) → set (set (set b at x₀) (at + 1) x₁) (at + 2) x₂ ≡ sets b at (x₀ ∷ x₁ ∷ x₂ ∷ [])

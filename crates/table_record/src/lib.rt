@@ -2,11 +2,11 @@
 // by crate `table_store`: these two alone know where in the bytes a record stands. Contracts speak of the list of records that the bytes hold
 // (specs/Layout.antt).
 ghost use Rattle.std.specs.Prelude.{◌≡◌, suc, ◌+◌, ◌*◌, ◌≤◌, ◌<◌, length, get_or};
-ghost use Rattle.spec_model.specs.Table.{permit, maxMethods, maxCategories, maxTypes};
-ghost use Rattle.spec_model.specs.Records.{argumentSlots};
-ghost use Rattle.spec_model.specs.Check.{noRawType, noRawLinks, state_of};
-ghost use Rattle.table_record.specs.Store.{types_in, linksIn, rawMethod, rawOf, rawIn, head_of, rawLinks, typeSize, headSize, methodSize};
-ghost use Rattle.table_record.specs.Store.{refAs, refIn, mayStandAs, withCount, emptyCounts, emptyMethod, emptyType, emptyTypes, emptyLinks};
+ghost use Rattle.spec_model.specs.Table.{permit, max_methods, max_categories, max_types};
+ghost use Rattle.spec_model.specs.Records.{argument_slots};
+ghost use Rattle.spec_model.specs.Check.{no_raw_type, no_raw_links, state_of};
+ghost use Rattle.table_record.specs.Store.{types_in, links_in, raw_method, raw_of, raw_in, head_of, raw_links, type_size, head_size, method_size};
+ghost use Rattle.table_record.specs.Store.{ref_as, ref_in, may_stand_as, with_count, empty_counts, empty_method, empty_type, empty_types, empty_links};
 
 // The bytes of the types of a table, and of its broader links: those of category 0, which names none, are there too.
 pub const TYPE_BYTES: usize = Counts::TYPES * TypeRec::BYTES;
@@ -41,7 +41,7 @@ impl Counts {
 
     // the counts of a table that holds nothing
     pub fn empty() -> Self
-        ensures { result ≡ emptyCounts }
+        ensures { result ≡ empty_counts }
     {
         Self {
             subjects: 0,
@@ -54,7 +54,7 @@ impl Counts {
 
     // the same with so many types
     pub fn with_types(self, types: usize) -> Self
-        ensures { result ≡ withCount self types }
+        ensures { result ≡ with_count self types }
     {
         Self {
             subjects: self.subjects,
@@ -91,7 +91,7 @@ impl Method {
 
     // denied, without a signature
     pub fn empty() -> Self
-        ensures { result ≡ emptyMethod }
+        ensures { result ≡ empty_method }
     {
         Self {
             state: Method::DENIED,
@@ -103,8 +103,8 @@ impl Method {
 
     // what argument slot i holds, whether it is used or not
     pub fn argument(self, i: usize) -> usize
-        requires { i < argumentSlots }
-        ensures { (result ≡ get_or self.args i 0) × (result < 256) × (length self.args ≡ argumentSlots) }
+        requires { i < argument_slots }
+        ensures { (result ≡ get_or self.args i 0) × (result < 256) × (length self.args ≡ argument_slots) }
     {
         let args = self.args;
         base_numbers::wide(args[i])
@@ -152,7 +152,7 @@ impl TypeRec {
 
     // a reference type of no category that denies every method
     pub fn empty() -> Self
-        ensures { result ≡ emptyType }
+        ensures { result ≡ empty_type }
     {
         let m = Method::empty();
         let methods = [m; Counts::METHODS];
@@ -210,21 +210,21 @@ pub fn permits(state: u8) -> bool
 
 // Bytes for the types of an empty table, and for its links.
 pub fn empty_types() -> [u8; TYPE_BYTES]
-    ensures { result ≡ emptyTypes }
+    ensures { result ≡ empty_types }
 {
     [0u8; TYPE_BYTES]
 }
 
 pub fn empty_links() -> [u8; LINK_BYTES]
-    ensures { result ≡ emptyLinks }
+    ensures { result ≡ empty_links }
 {
     [0u8; LINK_BYTES]
 }
 
 // The broader categories of category k.
 pub fn get_links(l: &[u8; LINK_BYTES], k: usize) -> Links
-    requires { k < suc maxCategories }
-    ensures { rawLinks result ≡ get_or (linksIn l.now) k noRawLinks }
+    requires { k < suc max_categories }
+    ensures { raw_links result ≡ get_or (links_in l.now) k no_raw_links }
 {
     let at = k * Links::BYTES;
     Links {
@@ -236,8 +236,8 @@ pub fn get_links(l: &[u8; LINK_BYTES], k: usize) -> Links
 
 // Type i without its methods.
 pub fn get_head(b: &[u8; TYPE_BYTES], i: usize) -> Head
-    requires { i < maxTypes }
-    ensures { result ≡ head_of (get_or (types_in b.now) i noRawType) }
+    requires { i < max_types }
+    ensures { result ≡ head_of (get_or (types_in b.now) i no_raw_type) }
 {
     let at = i * TypeRec::BYTES;
     Head {
@@ -252,16 +252,16 @@ pub fn get_head(b: &[u8; TYPE_BYTES], i: usize) -> Head
 
 // Where the bytes of method j of type i begin.
 fn method_at(i: usize, j: usize) -> usize
-    requires { (i < maxTypes) × (j < maxMethods) }
-    ensures { result ≡ i * typeSize + headSize + j * methodSize }
+    requires { (i < max_types) × (j < max_methods) }
+    ensures { result ≡ i * type_size + head_size + j * method_size }
 {
     i * TypeRec::BYTES + Head::BYTES + j * Method::BYTES
 }
 
 // Method j of type i.
 pub fn get_method(b: &[u8; TYPE_BYTES], i: usize, j: usize) -> Method
-    requires { (i < maxTypes) × (j < maxMethods) }
-    ensures { rawMethod result ≡ rawIn b.now i j }
+    requires { (i < max_types) × (j < max_methods) }
+    ensures { raw_method result ≡ raw_in b.now i j }
 {
     let at = method_at(i, j);
     let args = [b[at + 2], b[at + 3], b[at + 4], b[at + 5]];
@@ -275,8 +275,8 @@ pub fn get_method(b: &[u8; TYPE_BYTES], i: usize, j: usize) -> Method
 
 // The fields of method j of type i, each by itself: who needs few of them does not pay for a record. The code of the state.
 pub fn method_state(b: &[u8; TYPE_BYTES], i: usize, j: usize) -> u8
-    requires { (i < maxTypes) × (j < maxMethods) }
-    ensures { result ≡ (rawIn b.now i j).state }
+    requires { (i < max_types) × (j < max_methods) }
+    ensures { result ≡ (raw_in b.now i j).state }
 {
     let at = method_at(i, j);
     b[at]
@@ -284,8 +284,8 @@ pub fn method_state(b: &[u8; TYPE_BYTES], i: usize, j: usize) -> u8
 
 // How many arguments are used.
 pub fn method_count(b: &[u8; TYPE_BYTES], i: usize, j: usize) -> u8
-    requires { (i < maxTypes) × (j < maxMethods) }
-    ensures { result ≡ (rawIn b.now i j).count }
+    requires { (i < max_types) × (j < max_methods) }
+    ensures { result ≡ (raw_in b.now i j).count }
 {
     let at = method_at(i, j);
     b[at + 1]
@@ -293,8 +293,8 @@ pub fn method_count(b: &[u8; TYPE_BYTES], i: usize, j: usize) -> u8
 
 // What argument slot k holds, whether it is used or not.
 pub fn method_argument(b: &[u8; TYPE_BYTES], i: usize, j: usize, k: usize) -> u8
-    requires { (i < maxTypes) × (j < maxMethods) × (k < argumentSlots) }
-    ensures { result ≡ get_or (rawIn b.now i j).args k 0 }
+    requires { (i < max_types) × (j < max_methods) × (k < argument_slots) }
+    ensures { result ≡ get_or (raw_in b.now i j).args k 0 }
 {
     let at = method_at(i, j);
     b[at + 2 + k]
@@ -302,8 +302,8 @@ pub fn method_argument(b: &[u8; TYPE_BYTES], i: usize, j: usize, k: usize) -> u8
 
 // 0 for no answer, else the number of its type plus 1.
 pub fn method_answer(b: &[u8; TYPE_BYTES], i: usize, j: usize) -> u8
-    requires { (i < maxTypes) × (j < maxMethods) }
-    ensures { result ≡ (rawIn b.now i j).answer }
+    requires { (i < max_types) × (j < max_methods) }
+    ensures { result ≡ (raw_in b.now i j).answer }
 {
     let at = method_at(i, j);
     b[at + 6]
@@ -311,8 +311,8 @@ pub fn method_answer(b: &[u8; TYPE_BYTES], i: usize, j: usize) -> u8
 
 // Whether type i is a reference type.
 pub fn is_ref(b: &[u8; TYPE_BYTES], i: usize) -> bool
-    requires { i < maxTypes }
-    ensures { result ≡ refAs (get_or (types_in b.now) i noRawType) }
+    requires { i < max_types }
+    ensures { result ≡ ref_as (get_or (types_in b.now) i no_raw_type) }
 {
     let h = get_head(b, i);
     h.rep == Head::REF
@@ -320,8 +320,8 @@ pub fn is_ref(b: &[u8; TYPE_BYTES], i: usize) -> bool
 
 // Whether t names a reference type of the first n.
 pub fn names_ref(b: &[u8; TYPE_BYTES], n: usize, t: usize) -> bool
-    requires { n ≤ maxTypes }
-    ensures { result ≡ refIn n b.now t }
+    requires { n ≤ max_types }
+    ensures { result ≡ ref_in n b.now t }
 {
     if n <= t {
         return false;
@@ -331,8 +331,8 @@ pub fn names_ref(b: &[u8; TYPE_BYTES], n: usize, t: usize) -> bool
 
 // Whether type i may stand in a signature: a type without own, which a number type always is.
 pub fn may_stand(b: &[u8; TYPE_BYTES], i: usize) -> bool
-    requires { i < maxTypes }
-    ensures { result ≡ mayStandAs (get_or (types_in b.now) i noRawType) }
+    requires { i < max_types }
+    ensures { result ≡ may_stand_as (get_or (types_in b.now) i no_raw_type) }
 {
     let h = get_head(b, i);
     if h.rep != Head::REF {
@@ -343,9 +343,9 @@ pub fn may_stand(b: &[u8; TYPE_BYTES], i: usize) -> bool
 
 // Type i.
 pub fn get_type(b: &[u8; TYPE_BYTES], i: usize) -> TypeRec
-    requires { i < maxTypes }
-    ensures is { rawOf result ≡ get_or (types_in b.now) i noRawType }
-    ensures shape { length result.methods ≡ maxMethods }
+    requires { i < max_types }
+    ensures is { raw_of result ≡ get_or (types_in b.now) i no_raw_type }
+    ensures shape { length result.methods ≡ max_methods }
 {
     let head = get_head(b, i);
     let none = Method::empty();

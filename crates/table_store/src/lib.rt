@@ -2,17 +2,17 @@
 // crates/table_record/specs/Layout.antt.
 ghost use Rattle.std.specs.Prelude.{◌≡◌, suc, ◌+◌, ◌*◌, ◌≤◌, ◌<◌, length};
 ghost use Rattle.std.proofs.lemmas.List.Edits.{sets};
-ghost use Rattle.table_record.specs.Store.{rawMethod, rawOf, rawLinks, methodBytes, headBytes, spareBytes, linksBytes, Put};
-ghost use Rattle.table_record.specs.Layout.{headNumbers, spareSize, methodSize, link_size, typesSize, linksSize};
-ghost use Rattle.spec_model.specs.Table.{maxCategories, maxTypes};
-ghost use Rattle.spec_model.specs.Records.{argumentSlots};
+ghost use Rattle.table_record.specs.Store.{raw_method, raw_of, raw_links, method_bytes, head_bytes, spare_bytes, links_bytes, Put};
+ghost use Rattle.table_record.specs.Layout.{head_numbers, spare_size, method_size, link_size, types_size, links_size};
+ghost use Rattle.spec_model.specs.Table.{max_categories, max_types};
+ghost use Rattle.spec_model.specs.Records.{argument_slots};
 
 use table_record::{Counts, Head, LINK_BYTES, Links, Method, TYPE_BYTES, TypeRec};
 
 // Store the broader categories of category k.
 pub fn put_links(l: &mut [u8; LINK_BYTES], k: usize, x: Links)
-    requires { (k < suc maxCategories) × (length l.old ≡ linksSize) }
-    ensures { l.new ≡ sets l.old (k * link_size) (linksBytes (rawLinks x)) }
+    requires { (k < suc max_categories) × (length l.old ≡ links_size) }
+    ensures { l.new ≡ sets l.old (k * link_size) (links_bytes (raw_links x)) }
 {
     let at = k * Links::BYTES;
     l[at] = x.count;
@@ -21,9 +21,9 @@ pub fn put_links(l: &mut [u8; LINK_BYTES], k: usize, x: Links)
 }
 
 fn put_method(b: &mut [u8; TYPE_BYTES], at: usize, m: Method)
-    requires { at + methodSize ≤ typesSize }
-    ensures bytes { b.new ≡ sets b.old at (methodBytes (rawMethod m)) }
-    ensures shape { length m.args ≡ argumentSlots }
+    requires { at + method_size ≤ types_size }
+    ensures bytes { b.new ≡ sets b.old at (method_bytes (raw_method m)) }
+    ensures shape { length m.args ≡ argument_slots }
 {
     b[at] = m.state;
     b[at + 1] = m.count;
@@ -35,8 +35,8 @@ fn put_method(b: &mut [u8; TYPE_BYTES], at: usize, m: Method)
 }
 
 fn put_head(b: &mut [u8; TYPE_BYTES], at: usize, h: Head)
-    requires { at + headNumbers ≤ typesSize }
-    ensures { b.new ≡ sets b.old at (headBytes h) }
+    requires { at + head_numbers ≤ types_size }
+    ensures { b.new ≡ sets b.old at (head_bytes h) }
 {
     b[at] = h.rep;
     b[at + 1] = h.cat;
@@ -48,8 +48,8 @@ fn put_head(b: &mut [u8; TYPE_BYTES], at: usize, h: Head)
 
 // The spare bytes of a record are 0.
 fn put_spare(b: &mut [u8; TYPE_BYTES], at: usize)
-    requires { at + spareSize ≤ typesSize }
-    ensures { b.new ≡ sets b.old at spareBytes }
+    requires { at + spare_size ≤ types_size }
+    ensures { b.new ≡ sets b.old at spare_bytes }
 {
     let mut j: usize = 0;
     while j < Head::SPARE {
@@ -60,8 +60,8 @@ fn put_spare(b: &mut [u8; TYPE_BYTES], at: usize)
 
 // Store t as type i: its whole record, the spare bytes too.
 pub fn put_type(b: &mut [u8; TYPE_BYTES], i: usize, t: TypeRec)
-    requires { (i < maxTypes) × (length b.old ≡ typesSize) }
-    ensures { Put b.old i (rawOf t) b.new }
+    requires { (i < max_types) × (length b.old ≡ types_size) }
+    ensures { Put b.old i (raw_of t) b.new }
 {
     let at = i * TypeRec::BYTES;
     put_head(b, at, t.head);

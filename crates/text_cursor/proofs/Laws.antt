@@ -11,10 +11,10 @@ use lib.ListN.{length, get_or, take, drop, length-drop, length-append, take-appe
 use lib.Seq.{drop-cons, take-suc, get_or-drop, drop-drop, take_all, length-take-le, take-append_seam}
 use borrow.Author.Tests.{ne_eqb}
 use Rattle.spec_model.proofs.Rules.{both, first, second}
-use Rattle.spec_sheet.specs.Lines.{Row, row, cut, push, split, firstLine}
-use Rattle.spec_sheet.specs.Clean.{notLF, clean}
+use Rattle.spec_sheet.specs.Lines.{Row, row, cut, push, split, first_line}
+use Rattle.spec_sheet.specs.Clean.{not_lf, clean}
 use Rattle.spec_sheet.proofs.Steps.{cond_cases}
-use Rattle.spec_sheet.proofs.Lines.{all_append, unsplit, unsplit-split, notLF-eqb, split-line}
+use Rattle.spec_sheet.proofs.Lines.{all_append, unsplit, unsplit-split, not_lf-eqb, split-line}
 use Rattle.text_cursor.specs.View.{Clear, LineAt, past}
 
 -- A list from one of its places on.
@@ -51,10 +51,10 @@ last-four (suc (suc (suc n))) r e = let k : r ≡ 3 = e ∙ min-eq_right (omega 
 -- what is left has no LF
 split-cut : (b : ℕ) (l : List ℕ) → So (clean (b ∷ l)) → split (b ∷ l) ≡ cut (b ∷ l) ∷ []
 unfolding split
-split-cut b [] h = ap (λ z. cond z (row [] ∷ []) (cut (b ∷ []) ∷ [])) (notLF-eqb b (first (notLF b) (clean []) h))
+split-cut b [] h = ap (λ z. cond z (row [] ∷ []) (cut (b ∷ []) ∷ [])) (not_lf-eqb b (first (not_lf b) (clean []) h))
 split-cut b (d ∷ l) h =
-    ap (λ z. cond z (row [] ∷ split (d ∷ l)) (push b (split (d ∷ l)))) (notLF-eqb b (first (notLF b) (clean (d ∷ l)) h))
-    ∙ ap (push b) (split-cut d l (second (notLF b) (clean (d ∷ l)) h))
+    ap (λ z. cond z (row [] ∷ split (d ∷ l)) (push b (split (d ∷ l)))) (not_lf-eqb b (first (not_lf b) (clean (d ∷ l)) h))
+    ∙ ap (push b) (split-cut d l (second (not_lf b) (clean (d ∷ l)) h))
 
 past-cut : (at : ℕ) (l : List ℕ) → So (clean l) → past at (split l) ≡ at
 unfolding split
@@ -157,12 +157,12 @@ module _ (s : List ℕ) (at next : ℕ) (h : next ≡ past at (split (drop at s)
           let t : take (next - 1 - at) (drop at s) ≡ l = ap (λ (z : ℕ). take z (drop at s)) m ∙ w.0 in
           let u : length (take (next - 1 - at) (drop at s)) ≡ length l = ap length t in
           let v : length l < length (drop at s) = w.1 in
-          record { is = t ∙ sym (ap firstLine e); ended = λ _. omega arith }
+          record { is = t ∙ sym (ap first_line e); ended = λ _. omega arith }
 
   pub line-stayed : next ≤ at → LineAt s at []
   line-stayed k = go (split (drop at s)) refl
     where
       go : (rs : List Row) → split (drop at s) ≡ rs → LineAt s at []
-      go [] e = record { is = sym (ap firstLine e); ended = λ z. absurd (omega arith) }
-      go (cut l ∷ rs) e = record { is = sym (ap firstLine e); ended = λ z. absurd (omega arith) }
+      go [] e = record { is = sym (ap first_line e); ended = λ z. absurd (omega arith) }
+      go (cut l ∷ rs) e = record { is = sym (ap first_line e); ended = λ z. absurd (omega arith) }
       go (row l ∷ rs) e = let n : next ≡ at + (length l + 1) = goes l rs e in absurd (omega arith)

@@ -11,16 +11,16 @@ use lib.Seq.{take-suc-set, get_or-set_other}
 use borrow.Author.Tests.{le-leb, lt-leb, eq-eqb, ne_eqb}
 use Rattle.spec_model.specs.Basics.{Res, refuse, ok, try, need}
 use Rattle.spec_model.specs.Table.{between}
-use Rattle.spec_model.specs.Refusals.{form, outOfRange}
-use Rattle.spec_sheet.specs.Lines.{Row, row, cut, split, refused, got, line, line_at, firstLine, starts, same, keyed}
-use Rattle.spec_sheet.specs.Numbers.{Scan, fail, took, bindScan, whole, isDigit, top, limit, digits, number, comma, numbers}
-use Rattle.spec_sheet.specs.Sheet.{numberLine}
+use Rattle.spec_model.specs.Refusals.{form, out_of_range}
+use Rattle.spec_sheet.specs.Lines.{Row, row, cut, split, refused, got, line, line_at, first_line, starts, same, keyed}
+use Rattle.spec_sheet.specs.Numbers.{Scan, fail, took, bind_scan, whole, is_digit, top, limit, digits, number, comma, numbers}
+use Rattle.spec_sheet.specs.Sheet.{number_line}
 use Rattle.spec_model.proofs.Rules.{never}
 use Rattle.spec_sheet.proofs.Steps.{refuse-ok}
-use Rattle.spec_sheet.proofs.Numbers.{isDigit-of}
+use Rattle.spec_sheet.proofs.Numbers.{is_digit-of}
 use Rattle.spec_sheet.proofs.Lines.{starts-sound}
-use Rattle.text_read.specs.View.{scanned, scanBy, ScanWithin, valueBy, AtMost, read_by, GotAtMost, result, reading, passed_by, maxNumbers}
-use Rattle.text_read.specs.View.{items_of, numbersOf, RestEmpty, noNumbers}
+use Rattle.text_read.specs.View.{scanned, scan_by, ScanWithin, value_by, AtMost, read_by, GotAtMost, result, reading, passed_by, max_numbers}
+use Rattle.text_read.specs.View.{items_of, numbers_of, RestEmpty, no_numbers}
 use Rattle.text_read.specs.declared.Numbers.{Numbers}
 use Rattle.text_read.specs.declared.Value.{Value}
 use Rattle.text_read.specs.declared.Value.TheVariants.{Refused, Is}
@@ -78,21 +78,21 @@ word-short word l h = go (starts word l) refl
     go false e = refl
 
 -- Digits.
-low_digit : (b : ℕ) → b < 48 → isDigit b ≡ false
+low_digit : (b : ℕ) → b < 48 → is_digit b ≡ false
 low_digit b h = ap (λ z. z && leb b 57) (lt-leb 48 b h)
 
-high_digit : (b : ℕ) → 48 ≤ b → 57 < b → isDigit b ≡ false
+high_digit : (b : ℕ) → 48 ≤ b → 57 < b → is_digit b ≡ false
 high_digit b k h = ap (λ z. z && leb b 57) (le-leb 48 b k) ∙ lt-leb b 57 h
 
 -- b is the byte at i
 module _ (l : List ℕ) (i n b : ℕ) (h : i < length l) (e : b ≡ get_or l i 0) where
-  digits-here : digits n (drop i l) ≡ cond (isDigit b) (digits (limit (n * 10 + (b - 48))) (drop (i + 1) l)) (took n (drop i l))
+  digits-here : digits n (drop i l) ≡ cond (is_digit b) (digits (limit (n * 10 + (b - 48))) (drop (i + 1) l)) (took n (drop i l))
   unfolding digits
   digits-here =
       let d : drop i l ≡ b ∷ drop (i + 1) l = from-here l i h ∙ ap (λ z. z ∷ drop (i + 1) l) (sym e) in
-      ap (digits n) d ∙ ap (λ z. cond (isDigit b) (digits (limit (n * 10 + (b - 48))) (drop (i + 1) l)) (took n z)) (sym d)
+      ap (digits n) d ∙ ap (λ z. cond (is_digit b) (digits (limit (n * 10 + (b - 48))) (drop (i + 1) l)) (took n z)) (sym d)
 
-  digits-stop : isDigit b ≡ false → took n (drop i l) ≡ digits n (drop i l)
+  digits-stop : is_digit b ≡ false → took n (drop i l) ≡ digits n (drop i l)
   digits-stop d = sym (digits-here ∙ ap (λ z. cond z (digits (limit (n * 10 + (b - 48))) (drop (i + 1) l)) (took n (drop i l))) d)
 
   pub digits_low : b < 48 → took n (drop i l) ≡ digits n (drop i l)
@@ -104,7 +104,7 @@ module _ (l : List ℕ) (i n b : ℕ) (h : i < length l) (e : b ≡ get_or l i 0
   pub digits_more : (r : ℕ) → 48 ≤ b → b ≤ 57 → r ≡ limit (n * 10 + (b - 48)) → digits r (drop (i + 1) l) ≡ digits n (drop i l)
   digits_more r j k q =
       ap (λ z. digits z (drop (i + 1) l)) q
-      ∙ sym (digits-here ∙ ap (λ z. cond z (digits (limit (n * 10 + (b - 48))) (drop (i + 1) l)) (took n (drop i l))) (isDigit-of b j k))
+      ∙ sym (digits-here ∙ ap (λ z. cond z (digits (limit (n * 10 + (b - 48))) (drop (i + 1) l)) (took n (drop i l))) (is_digit-of b j k))
 
 pub digits-end : (l : List ℕ) (i n : ℕ) → length l ≤ i → took n (drop i l) ≡ digits n (drop i l)
 unfolding digits
@@ -116,15 +116,15 @@ unfolding number
 number-none l at h = sym (ap number (at-end l at (omega arith)))
 
 module _ (l : List ℕ) (at b : ℕ) (h : at < length l) (e : b ≡ get_or l at 0) where
-  number-here : number (drop at l) ≡ cond (eqb b 48) (took 0 (drop (at + 1) l)) (cond (isDigit b) (digits (b - 48) (drop (at + 1) l)) fail)
+  number-here : number (drop at l) ≡ cond (eqb b 48) (took 0 (drop (at + 1) l)) (cond (is_digit b) (digits (b - 48) (drop (at + 1) l)) fail)
   unfolding number
-  number-here = ap number (from-here l at h) ∙ ap (λ z. cond (eqb z 48) (took 0 (drop (at + 1) l)) (cond (isDigit z) (digits (z - 48) (drop (at + 1) l)) fail)) (sym e)
+  number-here = ap number (from-here l at h) ∙ ap (λ z. cond (eqb z 48) (took 0 (drop (at + 1) l)) (cond (is_digit z) (digits (z - 48) (drop (at + 1) l)) fail)) (sym e)
 
   pub number-zero : b ≡ 48 → took 0 (drop (at + 1) l) ≡ number (drop at l)
-  number-zero q = sym (number-here ∙ ap (λ z. cond z (took 0 (drop (at + 1) l)) (cond (isDigit b) (digits (b - 48) (drop (at + 1) l)) fail)) (eq-eqb b 48 q))
+  number-zero q = sym (number-here ∙ ap (λ z. cond z (took 0 (drop (at + 1) l)) (cond (is_digit b) (digits (b - 48) (drop (at + 1) l)) fail)) (eq-eqb b 48 q))
 
-  other : (b ≡ 48 → ⊥) → number (drop at l) ≡ cond (isDigit b) (digits (b - 48) (drop (at + 1) l)) fail
-  other q = number-here ∙ ap (λ z. cond z (took 0 (drop (at + 1) l)) (cond (isDigit b) (digits (b - 48) (drop (at + 1) l)) fail)) (ne_eqb b 48 q)
+  other : (b ≡ 48 → ⊥) → number (drop at l) ≡ cond (is_digit b) (digits (b - 48) (drop (at + 1) l)) fail
+  other q = number-here ∙ ap (λ z. cond z (took 0 (drop (at + 1) l)) (cond (is_digit b) (digits (b - 48) (drop (at + 1) l)) fail)) (ne_eqb b 48 q)
 
   pub number-low : (b ≡ 48 → ⊥) → b < 48 → fail ≡ number (drop at l)
   number-low q k = sym (other q ∙ ap (λ z. cond z (digits (b - 48) (drop (at + 1) l)) fail) (low_digit b k))
@@ -133,15 +133,15 @@ module _ (l : List ℕ) (at b : ℕ) (h : at < length l) (e : b ≡ get_or l at 
   number-high q j k = sym (other q ∙ ap (λ z. cond z (digits (b - 48) (drop (at + 1) l)) fail) (high_digit b j k))
 
   pub number_more : (b ≡ 48 → ⊥) → 48 ≤ b → b ≤ 57 → digits (b - 48) (drop (at + 1) l) ≡ number (drop at l)
-  number_more q j k = sym (other q ∙ ap (λ z. cond z (digits (b - 48) (drop (at + 1) l)) fail) (isDigit-of b j k))
+  number_more q j k = sym (other q ∙ ap (λ z. cond z (digits (b - 48) (drop (at + 1) l)) fail) (is_digit-of b j k))
 
 -- A number scanned, by its case.
-module _ {A : Type 0} (f : ℕ → A) (l : List ℕ) (t : Number) (S : Scan A) (is : scanBy f l t ≡ S) where
+module _ {A : Type 0} (f : ℕ → A) (l : List ℕ) (t : Number) (S : Scan A) (is : scan_by f l t ≡ S) where
   pub number-scan-wrong : t ≡ Wrong → fail ≡ S
-  number-scan-wrong e = ap (scanBy f l) (sym e) ∙ is
+  number-scan-wrong e = ap (scan_by f l) (sym e) ∙ is
 
   pub number-scan-right : (n next : ℕ) → t ≡ Right n next → took (f n) (drop next l) ≡ S
-  number-scan-right n next e = ap (scanBy f l) (sym e) ∙ is
+  number-scan-right n next e = ap (scan_by f l) (sym e) ∙ is
 
 pub right-within : (size : ℕ) (t : Number) (n next : ℕ) → t ≡ Right n next → ScanWithin size t → (next ≤ size) × (n ≤ top)
 right-within size t n next e h = subst (ScanWithin size) e h
@@ -161,19 +161,19 @@ module _ (l xs : List ℕ) (max count i : ℕ) (R : Scan (List ℕ)) (inv : numb
   numbers-many h = let e : max - count ≡ 0 = omega arith in ap (λ z. numbers z xs (drop i l)) (sym e) ∙ inv
 
   module _ (h : count < max) where
-    numbers-step : bindScan (number (drop i l)) (λ a r. comma (xs ++ a ∷ []) (λ q. numbers (max - (count + 1)) (xs ++ a ∷ []) q) r) ≡ R
+    numbers-step : bind_scan (number (drop i l)) (λ a r. comma (xs ++ a ∷ []) (λ q. numbers (max - (count + 1)) (xs ++ a ∷ []) q) r) ≡ R
     unfolding numbers
     numbers-step = let e : max - count ≡ suc (max - (count + 1)) = omega arith in ap (λ z. numbers z xs (drop i l)) (sym e) ∙ inv
 
     pub numbers-fail : fail ≡ number (drop i l) → fail ≡ R
-    numbers-fail q = ap (λ z. bindScan z (λ a r. comma (xs ++ a ∷ []) (λ q. numbers (max - (count + 1)) (xs ++ a ∷ []) q) r)) q ∙ numbers-step
+    numbers-fail q = ap (λ z. bind_scan z (λ a r. comma (xs ++ a ∷ []) (λ q. numbers (max - (count + 1)) (xs ++ a ∷ []) q) r)) q ∙ numbers-step
 
     -- with one more they are ys
     module _ (ys : List ℕ) (n e : ℕ) (kept : ys ≡ xs ++ n ∷ []) (q : took n (drop e l) ≡ number (drop i l)) where
       after : comma ys (λ q. numbers (max - (count + 1)) ys q) (drop e l) ≡ R
       after =
           ap (λ z. comma z (λ q. numbers (max - (count + 1)) z q) (drop e l)) kept
-          ∙ ap (λ z. bindScan z (λ a r. comma (xs ++ a ∷ []) (λ q. numbers (max - (count + 1)) (xs ++ a ∷ []) q) r)) q ∙ numbers-step
+          ∙ ap (λ z. bind_scan z (λ a r. comma (xs ++ a ∷ []) (λ q. numbers (max - (count + 1)) (xs ++ a ∷ []) q) r)) q ∙ numbers-step
 
       pub numbers-end : e ≡ length l → took ys (drop e l) ≡ R
       numbers-end b = let d : drop e l ≡ [] = at-end l e (omega arith) in ap (took ys) d ∙ ap (comma ys (λ q. numbers (max - (count + 1)) ys q)) (sym d) ∙ after
@@ -190,15 +190,15 @@ module _ (l xs : List ℕ) (max count i : ℕ) (R : Scan (List ℕ)) (inv : numb
       numbers-comma b w = ap (λ z. cond z (numbers (max - (count + 1)) ys (drop (e + 1) l)) (took ys (get_or l e 0 ∷ drop (e + 1) l))) (sym (eq-eqb (get_or l e 0) 44 w)) ∙ byte b
 
 -- One number more of those that there is room for: it stands behind the others, and what is not there is 0 as before.
-module _ (t r : Numbers) (n : ℕ) (few : t.count < maxNumbers) (items : items_of r ≡ set (items_of t) t.count n) (count : r.count ≡ t.count + 1) where
-  pub more_numbers : numbersOf r ≡ numbersOf t ++ n ∷ []
+module _ (t r : Numbers) (n : ℕ) (few : t.count < max_numbers) (items : items_of r ≡ set (items_of t) t.count n) (count : r.count ≡ t.count + 1) where
+  pub more_numbers : numbers_of r ≡ numbers_of t ++ n ∷ []
   more_numbers = ap (λ z. take z (items_of r)) (count ∙ add-one t.count) ∙ ap (take (suc t.count)) items ∙ take-suc-set (items_of t) t.count n few
 
   pub more-empty : RestEmpty t → RestEmpty r
   more-empty h k e =
       ap (λ z. get_or z k 0) items ∙ get_or-set_other (items_of t) t.count k n 0 (λ q. let s : k ≡ t.count = q in omega arith) ∙ h k (omega arith)
 
-pub none-empty : (next : ℕ) → RestEmpty (noNumbers next)
+pub none-empty : (next : ℕ) → RestEmpty (no_numbers next)
 none-empty next zero h = refl
 none-empty next (suc zero) h = refl
 none-empty next (suc (suc zero)) h = refl
@@ -211,67 +211,67 @@ module _ (l : List ℕ) (max : ℕ) where
   Within r = (r.next ≤ length l) × (r.count ≤ max) × RestEmpty r × (r.right ≡ true → 1 ≤ r.count)
 
   abbrev Scanned : Numbers → Scan (List ℕ) → Type 0
-  Scanned r S = (scanned l r.right (numbersOf r) r.next ≡ S) × Within r
+  Scanned r S = (scanned l r.right (numbers_of r) r.next ≡ S) × Within r
 
-  pub none-scanned : (at : ℕ) (r : Numbers) → r ≡ noNumbers at → at ≤ length l → (S : Scan (List ℕ)) → fail ≡ S → Scanned r S
+  pub none-scanned : (at : ℕ) (r : Numbers) → r ≡ no_numbers at → at ≤ length l → (S : Scan (List ℕ)) → fail ≡ S → Scanned r S
   none-scanned at r e h S q = subst (λ (t : Numbers). Scanned t S) (sym e) (q, (h, omega arith, none-empty at, λ k. never k))
 
   pub one-scanned : (r : Numbers) (count next : ℕ) → r.right ≡ true → r.count ≡ count + 1 → r.next ≡ next → next ≤ length l → count < max → RestEmpty r
-      → (S : Scan (List ℕ)) → took (numbersOf r) (drop next l) ≡ S → Scanned r S
+      → (S : Scan (List ℕ)) → took (numbers_of r) (drop next l) ≡ S → Scanned r S
   one-scanned r count next e k i h m z S q = (
-    ap (λ b. scanned l b (numbersOf r) r.next) e ∙ ap (λ n. took (numbersOf r) (drop n l)) i ∙ q,
+    ap (λ b. scanned l b (numbers_of r) r.next) e ∙ ap (λ n. took (numbers_of r) (drop n l)) i ∙ q,
     (omega arith, omega arith, z, λ b. omega arith),
   )
 
 -- A line of a key and a number.
 module _ (key l : List ℕ) (low high : ℕ) where
   ranged : ℕ → Res ℕ
-  ranged n = need (between low high n) outOfRange λ _. ok n
+  ranged n = need (between low high n) out_of_range λ _. ok n
 
   after-key : Bool → Res ℕ
   after-key b = try (need b form λ _. ok (drop (length key) l)) λ r. try (whole (number r)) ranged
 
-  line_of : after-key (starts key l) ≡ numberLine key low high l
-  unfolding numberLine keyed after-key ranged
+  line_of : after-key (starts key l) ≡ number_line key low high l
+  unfolding number_line keyed after-key ranged
   line_of = refl
 
-  pub number-key : starts key l ≡ false → refuse form ≡ numberLine key low high l
+  pub number-key : starts key l ≡ false → refuse form ≡ number_line key low high l
   unfolding after-key
   number-key e = ap after-key (sym e) ∙ line_of
 
   module _ (h : starts key l ≡ true) where
-    behind-key : try (whole (number (drop (length key) l))) ranged ≡ numberLine key low high l
+    behind-key : try (whole (number (drop (length key) l))) ranged ≡ number_line key low high l
     unfolding after-key
     behind-key = ap after-key (sym h) ∙ line_of
 
-    pub number-wrong : fail ≡ number (drop (length key) l) → refuse form ≡ numberLine key low high l
+    pub number-wrong : fail ≡ number (drop (length key) l) → refuse form ≡ number_line key low high l
     number-wrong e = ap (λ z. try (whole z) ranged) e ∙ behind-key
 
     module _ (n e : ℕ) (q : took n (drop e l) ≡ number (drop (length key) l)) where
-      taken : try (whole (took n (drop e l))) ranged ≡ numberLine key low high l
+      taken : try (whole (took n (drop e l))) ranged ≡ number_line key low high l
       taken = ap (λ z. try (whole z) ranged) q ∙ behind-key
 
-      pub number_behind : e < length l → refuse form ≡ numberLine key low high l
+      pub number_behind : e < length l → refuse form ≡ number_line key low high l
       number_behind k = ap (λ z. try (whole (took n z)) ranged) (sym (from-here l e k)) ∙ taken
 
-      alone : length l ≤ e → ranged n ≡ numberLine key low high l
+      alone : length l ≤ e → ranged n ≡ number_line key low high l
       alone k = ap (λ z. try (whole (took n z)) ranged) (sym (at-end l e k)) ∙ taken
 
-      pub number-below : length l ≤ e → n < low → refuse outOfRange ≡ numberLine key low high l
+      pub number-below : length l ≤ e → n < low → refuse out_of_range ≡ number_line key low high l
       unfolding ranged
-      number-below k j = ap (λ z. need (z && leb n high) outOfRange λ _. ok n) (sym (lt-leb low n j)) ∙ alone k
+      number-below k j = ap (λ z. need (z && leb n high) out_of_range λ _. ok n) (sym (lt-leb low n j)) ∙ alone k
 
-      pub number-above : length l ≤ e → low ≤ n → high < n → refuse outOfRange ≡ numberLine key low high l
+      pub number-above : length l ≤ e → low ≤ n → high < n → refuse out_of_range ≡ number_line key low high l
       unfolding ranged
-      number-above k i j = ap (λ z. need z outOfRange λ _. ok n) (sym (lt-leb n high j)) ∙ ap (λ z. need (z && leb n high) outOfRange λ _. ok n) (sym (le-leb low n i)) ∙ alone k
+      number-above k i j = ap (λ z. need z out_of_range λ _. ok n) (sym (lt-leb n high j)) ∙ ap (λ z. need (z && leb n high) out_of_range λ _. ok n) (sym (le-leb low n i)) ∙ alone k
 
-      pub number-good : length l ≤ e → low ≤ n → n ≤ high → ok n ≡ numberLine key low high l
+      pub number-good : length l ≤ e → low ≤ n → n ≤ high → ok n ≡ number_line key low high l
       unfolding ranged
-      number-good k i j = ap (λ z. need z outOfRange λ _. ok n) (sym (le-leb n high j)) ∙ ap (λ z. need (z && leb n high) outOfRange λ _. ok n) (sym (le-leb low n i)) ∙ alone k
+      number-good k i j = ap (λ z. need z out_of_range λ _. ok n) (sym (le-leb n high j)) ∙ ap (λ z. need (z && leb n high) out_of_range λ _. ok n) (sym (le-leb low n i)) ∙ alone k
 
 -- The one law of reading a line: what f gives of the line at `at` is the reading there, for every f that refuses an empty line with 1. `next` is where the cursor is behind it.
 module _ {A : Type 0} (f : List ℕ → Res A) (empty : f [] ≡ refuse form) (s : List ℕ) (at next : ℕ) (p : next ≡ past at (split (drop at s))) (l : List ℕ) (h : LineAt s at l) where
-  by_first : (rs : List Row) → l ≡ firstLine rs → (k : ℕ) → refuse k ≡ f l → refused k at ≡ line f at rs
+  by_first : (rs : List Row) → l ≡ first_line rs → (k : ℕ) → refuse k ≡ f l → refused k at ≡ line f at rs
   by_first [] e k q = ap (λ z. line_at z at [] []) (q ∙ ap f e ∙ empty)
   by_first (cut m ∷ rs) e k q = ap (λ z. line_at z at [] []) (q ∙ ap f e ∙ empty)
   by_first (row m ∷ rs) e k q = ap (λ z. line_at z at m rs) (q ∙ ap f e)
@@ -286,11 +286,11 @@ module _ {A : Type 0} (f : List ℕ → Res A) (empty : f [] ≡ refuse form) (s
   line-accepted x q = go (split (drop at s)) refl
     where
       go : (rs : List Row) → split (drop at s) ≡ rs → got x next (split (drop next s)) ≡ line f at rs
-      go [] e = no_line x q (h.is ∙ ap firstLine e)
-      go (cut m ∷ rs) e = no_line x q (h.is ∙ ap firstLine e)
+      go [] e = no_line x q (h.is ∙ ap first_line e)
+      go (cut m ∷ rs) e = no_line x q (h.is ∙ ap first_line e)
       go (row m ∷ rs) e =
           ap (λ (z : List Row). got x next z) (past-rest s at next p m rs e) ∙ ap (λ (z : ℕ). got x z rs) (p ∙ ap (past at) e)
-          ∙ ap (λ z. line_at z at m rs) (q ∙ ap f (h.is ∙ ap firstLine e))
+          ∙ ap (λ z. line_at z at m rs) (q ∙ ap f (h.is ∙ ap first_line e))
 
   -- the same for an answer with a refusal's number
   pub line-result : (nr : ℕ) (x : A) (to : ℕ) → result nr x ≡ f l → to ≡ cond (eqb nr 0) next at → reading s nr x to ≡ line f at (split (drop at s))
@@ -309,7 +309,7 @@ module _ {A : Type 0} (f : List ℕ → Res A) (empty : f [] ≡ refuse form) (s
 -- and for one whose number g reads
 module _ {A : Type 0} (f : List ℕ → Res A) (empty : f [] ≡ refuse form) (s : List ℕ) (c d : Cursor)
     (p : d.at ≡ past c.at (split (drop c.at s))) (l : List ℕ) (h : LineAt s c.at l) (g : ℕ → A) where
-  pub line_read : (v : Value) (r : Got) → valueBy g v ≡ f l → r ≡ passed_by v d → read_by g s c.at r ≡ line f c.at (split (drop c.at s))
+  pub line_read : (v : Value) (r : Got) → value_by g v ≡ f l → r ≡ passed_by v d → read_by g s c.at r ≡ line f c.at (split (drop c.at s))
   line_read (Refused k) r q e = ap (read_by g s c.at) e ∙ line_refused f empty s c.at d.at p l h k q
   line_read (Is n) r q e = ap (read_by g s c.at) e ∙ line-accepted f empty s c.at d.at p l h (g n) q
 
@@ -317,7 +317,7 @@ pub passed-at-most : (high : ℕ) (d : Cursor) (v : Value) (r : Got) → AtMost 
 passed-at-most high d (Refused k) r h e = subst (GotAtMost high) (sym e) h
 passed-at-most high d (Is n) r h e = subst (GotAtMost high) (sym e) h
 
-pub number-empty : (key : List ℕ) (low high : ℕ) → numberLine key low high [] ≡ refuse form
-unfolding numberLine keyed starts number
+pub number-empty : (key : List ℕ) (low high : ℕ) → number_line key low high [] ≡ refuse form
+unfolding number_line keyed starts number
 number-empty [] low high = refl
 number-empty (b ∷ key) low high = refl

@@ -13,17 +13,17 @@ use Rattle.text_read.specs.declared.Got.{Got}
 use Rattle.text_read.specs.declared.Got.TheVariants.{Refused as Refusedᵍ, At}
 
 -- the numbers that `Numbers` has fields for, a line's categories and arguments alike: no line may list more of either
-abbrev pub maxNumbers : ℕ
-maxNumbers = 4
+abbrev pub max_numbers : ℕ
+max_numbers = 4
 
 -- A scan of l that holds a list: whether the form is right, the value, and where the bytes behind it start.
 abbrev pub scanned : {A : Type 0} → List ℕ → Bool → A → ℕ → Scan A
 scanned l right x next = cond right (took x (drop next l)) fail
 
 -- A number scanned in l; f says what the number means.
-abbrev pub scanBy : {A : Type 0} → (ℕ → A) → List ℕ → Number → Scan A
-scanBy f l Wrong = fail
-scanBy f l (Right n next) = took (f n) (drop next l)
+abbrev pub scan_by : {A : Type 0} → (ℕ → A) → List ℕ → Number → Scan A
+scan_by f l Wrong = fail
+scan_by f l (Right n next) = took (f n) (drop next l)
 
 abbrev pub ScanWithin : ℕ → Number → Type 0
 ScanWithin size Wrong = Unit {0}
@@ -33,19 +33,19 @@ ScanWithin size (Right n next) = (next ≤ size) × (n ≤ top)
 abbrev pub items_of : Numbers → List ℕ
 items_of t = t.first ∷ t.second ∷ t.third ∷ t.fourth ∷ []
 
-abbrev pub numbersOf : Numbers → List ℕ
-numbersOf t = take t.count (items_of t)
+abbrev pub numbers_of : Numbers → List ℕ
+numbers_of t = take t.count (items_of t)
 
 abbrev pub RestEmpty : Numbers → Type 0
 RestEmpty t = (k : ℕ) → t.count ≤ k → get_or (items_of t) k 0 ≡ 0
 
-abbrev pub noNumbers : ℕ → Numbers
-noNumbers next = record { right = false; count = 0; first = 0; second = 0; third = 0; fourth = 0; next = next }
+abbrev pub no_numbers : ℕ → Numbers
+no_numbers next = record { right = false; count = 0; first = 0; second = 0; third = 0; fourth = 0; next = next }
 
 -- The result of one line; f says what the line's number means.
-abbrev pub valueBy : {A : Type 0} → (ℕ → A) → Value → Res A
-valueBy f (Refusedᵛ k) = refuse k
-valueBy f (Is n) = ok (f n)
+abbrev pub value_by : {A : Type 0} → (ℕ → A) → Value → Res A
+value_by f (Refusedᵛ k) = refuse k
+value_by f (Is n) = ok (f n)
 
 -- a refusal's number isn't 0, and a value is at most so large
 abbrev pub AtMost : ℕ → Value → Type 0

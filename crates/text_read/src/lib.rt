@@ -3,9 +3,9 @@
 ghost use Rattle.std.specs.Prelude.{◌≡◌, true, cond, [], ◌+◌, ◌*◌, ◌≤◌, ◌<◌, eqb, length, set, drop};
 ghost use Rattle.spec_sheet.specs.Lines.{split, line, starts, same};
 ghost use Rattle.spec_sheet.specs.Numbers.{top, limit, digits, number, numbers};
-ghost use Rattle.spec_sheet.specs.Sheet.{numberLine};
-ghost use Rattle.text_read.specs.View.{scanned, scanBy, ScanWithin, valueBy, AtMost, read_by, GotAtMost, passed_by, items_of};
-ghost use Rattle.text_read.specs.View.{numbersOf, RestEmpty, noNumbers, maxNumbers};
+ghost use Rattle.spec_sheet.specs.Sheet.{number_line};
+ghost use Rattle.text_read.specs.View.{scanned, scan_by, ScanWithin, value_by, AtMost, read_by, GotAtMost, passed_by, items_of};
+ghost use Rattle.text_read.specs.View.{numbers_of, RestEmpty, no_numbers, max_numbers};
 
 use base_numbers::{refusal, wide};
 use text_cursor::{Cursor, between, next_line};
@@ -91,7 +91,7 @@ fn more(n: usize, d: usize) -> usize
 // The digits from `at` on, behind those that made a.
 fn digits_at(l: &[u8], at: usize, a: usize) -> Number
     requires { (at ≤ length l.now) × (a ≤ top) }
-    ensures is { scanBy (λ n. n) l.now result ≡ digits a (drop at l.now) }
+    ensures is { scan_by (λ n. n) l.now result ≡ digits a (drop at l.now) }
     ensures within { ScanWithin (length l.now) result }
 {
     let mut i = at;
@@ -113,7 +113,7 @@ fn digits_at(l: &[u8], at: usize, a: usize) -> Number
 // The number that stands at `at`. A 0 is the whole number: what follows it is not its digit (S3).
 pub fn number_at(l: &[u8], at: usize) -> Number
     requires { at ≤ length l.now }
-    ensures is { scanBy (λ n. n) l.now result ≡ number (drop at l.now) }
+    ensures is { scan_by (λ n. n) l.now result ≡ number (drop at l.now) }
     ensures within { ScanWithin (length l.now) result }
 {
     if at == l.len() {
@@ -134,7 +134,7 @@ pub fn number_at(l: &[u8], at: usize) -> Number
 
 // no numbers: the form is wrong, or none is read yet
 pub fn no_numbers(next: usize) -> Numbers
-    ensures { result ≡ noNumbers next }
+    ensures { result ≡ no_numbers next }
 {
     Numbers {
         right: false,
@@ -149,7 +149,7 @@ pub fn no_numbers(next: usize) -> Numbers
 
 // One number more, behind which the bytes go on at `next`.
 fn with_number(t: Numbers, n: usize, next: usize) -> Numbers
-    requires { t.count < maxNumbers }
+    requires { t.count < max_numbers }
     ensures { (items_of result ≡ set (items_of t) t.count n) × (result.count ≡ t.count + 1) × (result.right ≡ true) × (result.next ≡ next) }
 {
     let mut r = t;
@@ -174,8 +174,8 @@ fn with_number(t: Numbers, n: usize, next: usize) -> Numbers
 
 // One number or more with commas between, at most max: one too many is a fault of form (S11).
 pub fn numbers_at(l: &[u8], at: usize, max: usize) -> Numbers
-    requires { (at ≤ length l.now) × (max ≤ maxNumbers) }
-    ensures is { scanned l.now result.right (numbersOf result) result.next ≡ numbers max [] (drop at l.now) }
+    requires { (at ≤ length l.now) × (max ≤ max_numbers) }
+    ensures is { scanned l.now result.right (numbers_of result) result.next ≡ numbers max [] (drop at l.now) }
     ensures within { (result.next ≤ length l.now) × (result.count ≤ max) × RestEmpty result × (result.right ≡ true → 1 ≤ result.count) }
 {
     let mut i = at;
@@ -219,7 +219,7 @@ pub fn passed(v: Value, d: Cursor) -> Got
 
 // A line of a key and one number from low to high (S29).
 pub fn read_number(l: &[u8], key: &[u8], low: usize, high: usize) -> Value
-    ensures is { valueBy (λ n. n) result ≡ numberLine key.now low high l.now }
+    ensures is { value_by (λ n. n) result ≡ number_line key.now low high l.now }
     ensures within { AtMost high result }
 {
     if !begins(l, key) {
@@ -244,7 +244,7 @@ pub fn read_number(l: &[u8], key: &[u8], low: usize, high: usize) -> Value
 // The next line: a key and one number from low to high.
 pub fn next_number(s: &[u8], c: Cursor, key: &[u8], low: usize, high: usize) -> Got
     ensures is { read_by (λ n. n) s.now c.at result
-        ≡ line (numberLine key.now low high) c.at (split (drop c.at s.now)) }
+        ≡ line (number_line key.now low high) c.at (split (drop c.at s.now)) }
     ensures within { GotAtMost high result }
 {
     let d = next_line(s, c);

@@ -11,7 +11,7 @@ use lib.ListN.{length, get_or, set, take, drop, length-append, length-drop, drop
 use lib.Seq.{take-append_seam, drop-append_seam, drop-drop, length-take-le, take_all, take-suc, drop-cons, set_at}
 use borrow.Rule.Slice.PartMut.{mid_of, put_mid}
 use Rattle.spec_sheet.specs.Lines.{join}
-use Rattle.spec_sheet.specs.Numbers.{decimalIn, decimal}
+use Rattle.spec_sheet.specs.Numbers.{decimal_in, decimal}
 use Rattle.spec_sheet.proofs.Offsets.{join-append}
 use Rattle.spec_sheet.proofs.Lines.{nil-length}
 use Rattle.text_write.specs.Fill.{Filled, Lined}
@@ -121,12 +121,12 @@ pub counted : {b tl xs : List ℕ} {r : ℕ} → Filled [] tl xs r → tl ++ b �
 counted {b} {tl} f = ap (λ z. z ++ b) (nil-length tl f.size)
 
 -- a number of 64 bits has at most twenty digits
-digits-few : (f n : ℕ) → length (decimalIn f n) ≤ f
-unfolding decimalIn
+digits-few : (f n : ℕ) → length (decimal_in f n) ≤ f
+unfolding decimal_in
 digits-few zero n = omega arith
 digits-few (suc f) n = go (ltb n 10) (digits-few f (n / 10))
   where
-    go : (b : Bool) → length (decimalIn f (n / 10)) ≤ f → length (cond b ((48 + n) ∷ []) (decimalIn f (n / 10) ++ (48 + n % 10) ∷ [])) ≤ suc f
+    go : (b : Bool) → length (decimal_in f (n / 10)) ≤ f → length (cond b ((48 + n) ∷ []) (decimal_in f (n / 10) ++ (48 + n % 10) ∷ [])) ≤ suc f
     go true h = omega arith
     go false h = simp length-append (omega arith)
 

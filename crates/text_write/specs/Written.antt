@@ -5,9 +5,9 @@ use Rattle.spec_sheet.specs.Text.{Written}
 use Rattle.text_write.specs.declared.Wrote.{Wrote}
 use Rattle.text_write.specs.declared.Wrote.TheVariants.{Refused, Length}
 
-abbrev pub wroteResult : Wrote → Res ℕ
-wroteResult (Refused n) = refuse n
-wroteResult (Length n) = ok n
+abbrev pub wrote_result : Wrote → Res ℕ
+wrote_result (Refused n) = refuse n
+wrote_result (Length n) = ok n
 
 -- the number of a refusal, or 0; and what is handed out beside it, which stays `old` where it is refused
 abbrev pub number_of : {A : Type 0} → Res A → ℕ
@@ -20,7 +20,7 @@ value_of old (ok x) = x
 
 -- the result, and the buffer as it is then
 abbrev pub written_of : Wrote → List ℕ → Written
-written_of w buffer = record { result = wroteResult w; buffer = buffer }
+written_of w buffer = record { result = wrote_result w; buffer = buffer }
 
 -- what a C function hands out of it, each part by itself (E12): the number, the length (old and new) and the buffer
 pub record WrittenIs (w : Written) (n old new : ℕ) (buffer : List ℕ) : Type 0 where

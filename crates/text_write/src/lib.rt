@@ -4,9 +4,9 @@
 // long.
 ghost use Rattle.std.specs.Prelude.{◌≡◌, [], ◌∷◌, ◌+◌, ◌≤◌, ◌<◌, length};
 ghost use Rattle.spec_sheet.specs.Numbers.{decimal};
-ghost use Rattle.spec_sheet.specs.Text.{numberText};
+ghost use Rattle.spec_sheet.specs.Text.{number_text};
 ghost use Rattle.text_write.specs.Fill.{Filled, Lined};
-ghost use Rattle.text_write.specs.Written.{wroteResult, number_of, value_of};
+ghost use Rattle.text_write.specs.Written.{wrote_result, number_of, value_of};
 
 use base_numbers::least;
 
@@ -19,7 +19,7 @@ pub enum Wrote {
 
 // What a C function returns for it: the refusal's number, or 0 with the length handed out (E12).
 pub fn wrote_code(w: Wrote, length: &mut usize) -> usize
-    ensures { (result ≡ number_of (wroteResult w)) × (length.new ≡ value_of length.old (wroteResult w)) }
+    ensures { (result ≡ number_of (wrote_result w)) × (length.new ≡ value_of length.old (wrote_result w)) }
 {
     match w {
         Wrote::Refused(n) => n,
@@ -80,7 +80,7 @@ pub fn put_decimal(buf: &mut [u8], n: usize) -> usize
 // A key and a number.
 pub fn put_number(buf: &mut [u8], key: &[u8], n: usize) -> usize
     requires { length key.now ≤ 16 }
-    ensures is { Filled buf.old buf.new (numberText key.now n) result }
+    ensures is { Filled buf.old buf.new (number_text key.now n) result }
     ensures few { result ≤ 36 }
 {
     let a = put_bytes(buf, key);
@@ -92,7 +92,7 @@ pub fn put_number(buf: &mut [u8], key: &[u8], n: usize) -> usize
 // A line of a key and a number (W6).
 pub fn write_number(buf: &mut [u8], key: &[u8], n: usize) -> usize
     requires { length key.now ≤ 16 }
-    ensures is { Lined buf.old buf.new (numberText key.now n ∷ []) result }
+    ensures is { Lined buf.old buf.new (number_text key.now n ∷ []) result }
     ensures few { result ≤ 37 }
 {
     let a = put_number(buf, key, n);

@@ -10,11 +10,11 @@ use borrow.Author.Tests.{ltb-true, ltb-false}
 use Rattle.spec_model.specs.Basics.{Res, ok}
 use Rattle.spec_model.specs.Refusals.{form}
 use Rattle.spec_sheet.specs.Lines.{bytes, split, join, Reading, refused, got}
-use Rattle.spec_sheet.specs.Text.{maxInput, numberText}
+use Rattle.spec_sheet.specs.Text.{max_input, number_text}
 use Rattle.spec_doors.specs.Held.{Counts, held}
 use Rattle.spec_doors.specs.Paired.{Fit, Counted, Paired, unfit, counted}
-use Rattle.spec_doors.specs.Input.{Input, inputLines, inputText}
-use Rattle.spec_doors.specs.Output.{heldText, heldIn, doorsOutput}
+use Rattle.spec_doors.specs.Input.{Input, input_lines, input_text}
+use Rattle.spec_doors.specs.Output.{held_text, held_in, doors_output}
 use Rattle.spec_sheet.proofs.Steps.{ok-value}
 use Rattle.spec_sheet.proofs.Readers.{refused-got, got-value}
 use Rattle.spec_doors.proofs.Held.{held-is, paired-one}
@@ -28,54 +28,54 @@ pub shown-of-holding : ShownOfHolding
 shown-of-holding marks arrivals within r e = subst (Paired marks arrivals within) (sym e) (held-is marks arrivals within)
 
 -- ---- The C function
-handed_out : (marks arrivals : List ℕ) (within n : ℕ) (old new : List ℕ) (r : Res Counts) → Paired marks arrivals within r → HeldIs r n old new
+handed-out : (marks arrivals : List ℕ) (within n : ℕ) (old new : List ℕ) (r : Res Counts) → Paired marks arrivals within r → HeldIs r n old new
     → HeldBytes marks arrivals within old n new
-handed_out marks arrivals within n old new _ (unfit e) h = rw (h.number, h.counts) (refuses e)
-handed_out marks arrivals within n old new _ (counted {c} k) h = rw (h.number, h.counts) (counts c k)
+handed-out marks arrivals within n old new _ (unfit e) h = rw (h.number, h.counts) (refuses e)
+handed-out marks arrivals within n old new _ (counted {c} k) h = rw (h.number, h.counts) (counts c k)
 
 pub shown-of-holding-bytes : ShownOfHoldingBytes
-shown-of-holding-bytes marks arrivals within n old new h = handed_out marks arrivals within n old new (held marks arrivals within) (held-is marks arrivals within) h
+shown-of-holding-bytes marks arrivals within n old new h = handed-out marks arrivals within n old new (held marks arrivals within) (held-is marks arrivals within) h
 
 -- ---- The program
-module _ (s : List ℕ) (short : length s ≤ maxInput) where
-  as_read : (x : Input) (at : ℕ) → inputLines 0 (split s) ≡ got x at [] → (r : Res Counts) → Paired x.marks x.arrivals x.within r → Prints s (heldText r)
-  unfolding heldText numberText
+module _ (s : List ℕ) (short : length s ≤ max_input) where
+  as_read : (x : Input) (at : ℕ) → input_lines 0 (split s) ≡ got x at [] → (r : Res Counts) → Paired x.marks x.arrivals x.within r → Prints s (held_text r)
+  unfolding held_text number_text
   as_read x at i _ (unfit e) = doors.unfit x at short i e
   as_read x at i _ (counted {c} k) = doors.counted x c short ((input-exact x k.fit s).0 (at, i)) k
 
-  by_lines : (r : Reading Input) → inputLines 0 (split s) ≡ r → OfForms r → Ended r → Prints s (heldText (heldIn r))
-  unfolding heldText numberText
-  by_lines (refused n at) e f g = subst (λ k. Prints s (heldText (heldIn (refused k at)))) (sym f) (malformed at short (e ∙ ap (λ k. refused k at) f))
+  by_lines : (r : Reading Input) → input_lines 0 (split s) ≡ r → OfForms r → Ended r → Prints s (held_text (held_in r))
+  unfolding held_text number_text
+  by_lines (refused n at) e f g = subst (λ k. Prints s (held_text (held_in (refused k at)))) (sym f) (malformed at short (e ∙ ap (λ k. refused k at) f))
   by_lines (got x at rs) e f g = as_read x at (e ∙ ap (got x at) g) (held x.marks x.arrivals x.within) (held-is x.marks x.arrivals x.within)
 
 pub shown-of-doors : ShownOfDoors
-unfolding doorsOutput
-shown-of-doors s out e = go (ltb maxInput (length s)) refl
+unfolding doors_output
+shown-of-doors s out e = go (ltb max_input (length s)) refl
   where
     lines : Bool → List (List ℕ)
-    lines b = cond b (bytes "no=2") (heldText (heldIn (inputLines 0 (split s)))) ∷ []
+    lines b = cond b (bytes "no=2") (held_text (held_in (input_lines 0 (split s)))) ∷ []
 
-    go : (b : Bool) → ltb maxInput (length s) ≡ b → Printed s out
-    go true t = record { text = bytes "no=2"; prints = long (ltb-true maxInput (length s) t); is = e ∙ ap (λ b. join (lines b)) t }
+    go : (b : Bool) → ltb max_input (length s) ≡ b → Printed s out
+    go true t = record { text = bytes "no=2"; prints = long (ltb-true max_input (length s) t); is = e ∙ ap (λ b. join (lines b)) t }
     go false t = record {
-      text = heldText (heldIn (inputLines 0 (split s)));
-      prints = by_lines s (ltb-false maxInput (length s) t) (inputLines 0 (split s)) refl (input-form 0 (split s)) (input-ended 0 (split s));
+      text = held_text (held_in (input_lines 0 (split s)));
+      prints = by_lines s (ltb-false max_input (length s) t) (input_lines 0 (split s)) refl (input-form 0 (split s)) (input-ended 0 (split s));
       is = e ∙ ap (λ b. join (lines b)) t;
     }
 
 -- ---- One output
 -- an input that fits and whose text is s is what s is read as
-module _ (s : List ℕ) (y : Input) (c : Counts) (t : s ≡ inputText y) (k : Counted y.marks y.arrivals y.within c) where
-  is_read : (r : Reading Input) → inputLines 0 (split s) ≡ r → (at : ℕ) × (r ≡ got y at [])
+module _ (s : List ℕ) (y : Input) (c : Counts) (t : s ≡ input_text y) (k : Counted y.marks y.arrivals y.within c) where
+  is_read : (r : Reading Input) → input_lines 0 (split s) ≡ r → (at : ℕ) × (r ≡ got y at [])
   is_read r e = let i = (input-exact y k.fit s).1 t in (i.0, sym e ∙ i.1)
 
-  not-malformed : {A : Type 0} (at : ℕ) → inputLines 0 (split s) ≡ refused form at → A
+  not-malformed : {A : Type 0} (at : ℕ) → input_lines 0 (split s) ≡ refused form at → A
   not-malformed at e = refused-got (is_read (refused form at) e).1
 
-  as-itself : (x : Input) (at : ℕ) → inputLines 0 (split s) ≡ got x at [] → x ≡ y
+  as-itself : (x : Input) (at : ℕ) → input_lines 0 (split s) ≡ got x at [] → x ≡ y
   as-itself x at e = got-value (is_read (got x at []) e).1
 
-  not-unfit : {A : Type 0} (x : Input) (at : ℕ) → inputLines 0 (split s) ≡ got x at [] → (Fit x.marks x.arrivals x.within → ⊥) → A
+  not-unfit : {A : Type 0} (x : Input) (at : ℕ) → input_lines 0 (split s) ≡ got x at [] → (Fit x.marks x.arrivals x.within → ⊥) → A
   not-unfit x at e f = absurd (f (subst (λ (z : Input). Fit z.marks z.arrivals z.within) (sym (as-itself x at e)) k.fit))
 
 -- the counts of one input, or of another that is the same, are the same
@@ -100,8 +100,8 @@ one-text s _ _ (doors.counted x c h t l) (long k) = absurd (omega arith)
 one-text s _ _ (doors.counted x c h t l) (malformed at k e) = not-malformed s x c t l at e
 one-text s _ _ (doors.counted x c h t l) (doors.unfit y at k e f) = not-unfit s x c t l y at e f
 one-text s _ _ (doors.counted x c h t l) (doors.counted y d k u m) =
-    let i = is_read s x c t l (inputLines 0 (split s)) refl in
-    ap (λ (z : Counts). numberText (bytes "got=") z.pairs ++ (numberText (bytes " ") z.marks ++ numberText (bytes " ") z.arrivals))
+    let i = is_read s x c t l (input_lines 0 (split s)) refl in
+    ap (λ (z : Counts). number_text (bytes "got=") z.pairs ++ (number_text (bytes " ") z.marks ++ number_text (bytes " ") z.arrivals))
     (same-counts x y c d (as-itself s y d u m x i.0 i.1) l m)
 
 pub one-output : OneOutput

@@ -6,17 +6,17 @@ use Prim.Native.Nat.{ℕ, ◌≤◌, ◌<◌}
 use native.Mathlib.Omega.{arith}
 use lib.ListN.{length, take, drop, length-take}
 use Rattle.spec_model.specs.Basics.{ok}
-use Rattle.spec_sheet.specs.Text.{Written, writeText}
-use Rattle.spec_tiny.specs.Tiny.{tinyText, tinyBytes}
+use Rattle.spec_sheet.specs.Text.{Written, write_text}
+use Rattle.spec_tiny.specs.Tiny.{tiny_text, tiny_bytes}
 use Rattle.spec_tiny.specs.Every.{Every}
 use Rattle.spec_tiny.proofs.Count.{text-size}
 use Rattle.spec_tiny.proofs.Every.{every-tiny}
 use Rattle.text_write.specs.Written.{written_of}
-use Rattle.theorem.specs.Scripted.{Fits, TooShort, writtenIn}
+use Rattle.theorem.specs.Scripted.{Fits, TooShort, written_in}
 use Rattle.theorem.specs.Listed.{Listed, ShownOfTiny, ShownOfTinyBytes}
-use Rattle.theorem.proofs.Scripted.{written, written_in}
+use Rattle.theorem.proofs.Scripted.{written, written-in}
 
-by_length : (old : List ℕ) (w : Written) → Fits tinyText old w ⊎ TooShort tinyText old w → Listed old w
+by_length : (old : List ℕ) (w : Written) → Fits tiny_text old w ⊎ TooShort tiny_text old w → Listed old w
 by_length old w (inl f) = record {
   result = λ _. f.result ∙ ap ok text-size;
   every = λ _. subst Every (sym f.front ∙ ap (λ n. take n w.buffer) text-size) every-tiny;
@@ -26,8 +26,8 @@ by_length old w (inl f) = record {
 }
   where
     -- there is room for the text, since it stands there
-    long : length old < tinyBytes → ⊥
-    long h = let m = sym (length-take (length tinyText) w.buffer) ∙ ap length f.front in omega (arith, m, f.size, text-size)
+    long : length old < tiny_bytes → ⊥
+    long h = let m = sym (length-take (length tiny_text) w.buffer) ∙ ap length f.front in omega (arith, m, f.size, text-size)
 by_length old w (inr s) = record {
   result = λ h. absurd (short h);
   every = λ h. absurd (short h);
@@ -36,14 +36,14 @@ by_length old w (inr s) = record {
   untouched = λ _. s.untouched;
 }
   where
-    short : tinyBytes ≤ length old → ⊥
+    short : tiny_bytes ≤ length old → ⊥
     short h = omega (arith, s.short, text-size)
 
-listed : (old : List ℕ) (w : Written) → w ≡ writeText tinyText old → Listed old w
-listed old w e = subst (Listed old) (sym e) (by_length old (writeText tinyText old) (written tinyText old))
+listed : (old : List ℕ) (w : Written) → w ≡ write_text tiny_text old → Listed old w
+listed old w e = subst (Listed old) (sym e) (by_length old (write_text tiny_text old) (written tiny_text old))
 
 pub shown-of-tiny : ShownOfTiny
 shown-of-tiny old new r e = listed old (written_of r new) e
 
 pub shown-of-tiny-bytes : ShownOfTinyBytes
-shown-of-tiny-bytes old new n before after w = listed old (writtenIn n after new) (written_in tinyText old new n before after w)
+shown-of-tiny-bytes old new n before after w = listed old (written_in n after new) (written-in tiny_text old new n before after w)

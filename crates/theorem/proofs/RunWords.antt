@@ -14,12 +14,12 @@ use Rattle.spec_model.specs.Requests.{System, Request, Result, pair, number, not
 use Rattle.spec_model.specs.Callers.{Transcript, taken}
 use Rattle.spec_model.proofs.Tests.{eqb-so}
 use Rattle.law_handed.proofs.Small.{Small, Named, small-serve}
-use Rattle.request_results.specs.States.{outcomeNumber}
-use Rattle.request_words.specs.Words.{request, requests, outcomeSize, words_of, outcomeWords}
-use Rattle.request_run.specs.Requested.{asked, placed, runAsked}
+use Rattle.request_results.specs.States.{outcome_number}
+use Rattle.request_words.specs.Words.{request, requests, outcome_size, words_of, outcome_words}
+use Rattle.request_run.specs.Requested.{asked, placed, run_asked}
 use Rattle.request_run.specs.Ran.{room}
-use Rattle.theorem.specs.Shown.{seenOf}
-use Rattle.theorem.specs.OfStates.{is_zero, seenBy, first_word}
+use Rattle.theorem.specs.Shown.{seen_of}
+use Rattle.theorem.specs.OfStates.{is_zero, seen_by, first_word}
 
 -- the number of a refusal is not 0
 pub not-zero : (n : ℕ) → 0 < n → eqb n 0 ≡ false
@@ -31,7 +31,7 @@ not-zero n h = go (eqb n 0) refl
 
 -- ---- the words of one answer
 module _ (ws rest : List ℤ) where
-  behind : (o : Outcome) → drop outcomeSize ((words_of o ++ ws) ++ rest) ≡ ws ++ rest
+  behind : (o : Outcome) → drop outcome_size ((words_of o ++ ws) ++ rest) ≡ ws ++ rest
   behind (refused e) = refl
   behind (got (pair a b)) = refl
   behind (got (number v)) = refl
@@ -47,19 +47,19 @@ module _ (ws rest : List ℤ) where
   first-word s (refuse e) h = not-zero e h.0
   first-word s (ok x) h = first-got x.1
 
-seen-words : (qs : List (Option Request)) (s : System) (rest : List ℤ) → let os = placed qs (run s (asked qs)).0 in seenBy qs (outcomeWords os ++ rest) ≡ seenOf qs os
-unfolding run outcomeWords
+seen-words : (qs : List (Option Request)) (s : System) (rest : List ℤ) → let os = placed qs (run s (asked qs)).0 in seen_by qs (outcome_words os ++ rest) ≡ seen_of qs os
+unfolding run outcome_words
 seen-words [] s rest = refl
 seen-words (none ∷ qs) s rest = seen-words qs s rest
 seen-words (some q ∷ qs) s rest =
     let a = serve s q in
     let os = placed qs (run (after s a) (asked qs)).0 in
-    let ws = outcomeWords os in
-    ap (λ c. (q, c) ∷ seenBy qs (drop outcomeSize ((words_of (outcome a) ++ ws) ++ rest))) (first-word ws rest s a (small-serve s q))
-    ∙ ap (λ z. (q, taken (outcome a)) ∷ seenBy qs z) (behind ws rest (outcome a)) ∙ ap (λ (l : Transcript). (q, taken (outcome a)) ∷ l) (seen-words qs (after s a) rest)
+    let ws = outcome_words os in
+    ap (λ c. (q, c) ∷ seen_by qs (drop outcome_size ((words_of (outcome a) ++ ws) ++ rest))) (first-word ws rest s a (small-serve s q))
+    ∙ ap (λ z. (q, taken (outcome a)) ∷ seen_by qs z) (behind ws rest (outcome a)) ∙ ap (λ (l : Transcript). (q, taken (outcome a)) ∷ l) (seen-words qs (after s a) rest)
 
 -- ---- a call in the middle: its first word is the number of its outcome, and the words before it have the transcript of the outcomes before it
-number_word : (o : Outcome) (ws rest : List ℤ) → get_or ((words_of o ++ ws) ++ rest) 0 (pos 1) ≡ pos (outcomeNumber o)
+number_word : (o : Outcome) (ws rest : List ℤ) → get_or ((words_of o ++ ws) ++ rest) 0 (pos 1) ≡ pos (outcome_number o)
 number_word (refused e) ws rest = refl
 number_word (got (pair a b)) ws rest = refl
 number_word (got (number v)) ws rest = refl
@@ -67,24 +67,24 @@ number_word (got nothing) ws rest = refl
 
 module _ (after' : List (Option Request)) (q : Request) where
   word_at : (before : List (Option Request)) (s : System) (rest : List ℤ) → let qs = before ++ (some q ∷ after') in
-      first_word (length before) (outcomeWords (placed qs (run s (asked qs)).0) ++ rest) ≡ pos (outcomeNumber (outcome (serve (run s (asked before)).1 q)))
-  unfolding run outcomeWords
+      first_word (length before) (outcome_words (placed qs (run s (asked qs)).0) ++ rest) ≡ pos (outcome_number (outcome (serve (run s (asked before)).1 q)))
+  unfolding run outcome_words
   word_at [] s rest = number_word (outcome (serve s q)) _ rest
   word_at (none ∷ before) s rest = word_at before s rest
-  word_at (some p ∷ before) s rest = let a = serve s p in let qs = before ++ (some q ∷ after') in let ws = outcomeWords (placed qs (run (after s a) (asked qs)).0) in
+  word_at (some p ∷ before) s rest = let a = serve s p in let qs = before ++ (some q ∷ after') in let ws = outcome_words (placed qs (run (after s a) (asked qs)).0) in
       ap (first_word (length before)) (behind ws rest (outcome a)) ∙ word_at before (after s a) rest
 
   words-before : (before : List (Option Request)) (s : System) (rest : List ℤ) → let qs = before ++ (some q ∷ after') in let os = placed qs (run s (asked qs)).0 in
-      seenBy before (outcomeWords os ++ rest) ≡ seenOf before os
-  unfolding run outcomeWords
+      seen_by before (outcome_words os ++ rest) ≡ seen_of before os
+  unfolding run outcome_words
   words-before [] s rest = refl
   words-before (none ∷ before) s rest = words-before before s rest
   words-before (some p ∷ before) s rest =
       let a = serve s p in
       let qs = before ++ (some q ∷ after') in
-      let ws = outcomeWords (placed qs (run (after s a) (asked qs)).0) in
-      ap (λ c. (p, c) ∷ seenBy before (drop outcomeSize ((words_of (outcome a) ++ ws) ++ rest))) (first-word ws rest s a (small-serve s p))
-      ∙ ap (λ z. (p, taken (outcome a)) ∷ seenBy before z) (behind ws rest (outcome a)) ∙ ap (λ (l : Transcript). (p, taken (outcome a)) ∷ l) (words-before before (after s a) rest)
+      let ws = outcome_words (placed qs (run (after s a) (asked qs)).0) in
+      ap (λ c. (p, c) ∷ seen_by before (drop outcome_size ((words_of (outcome a) ++ ws) ++ rest))) (first-word ws rest s a (small-serve s p))
+      ∙ ap (λ z. (p, taken (outcome a)) ∷ seen_by before z) (behind ws rest (outcome a)) ∙ ap (λ (l : Transcript). (p, taken (outcome a)) ∷ l) (words-before before (after s a) rest)
 
 -- ---- all of them: there is room
 pub outcomes-length : (qs : List (Option Request)) (s : System) → length (placed qs (run s (asked qs)).0) ≡ length qs
@@ -93,16 +93,16 @@ outcomes-length [] s = refl
 outcomes-length (none ∷ qs) s = ap suc (outcomes-length qs s)
 outcomes-length (some q ∷ qs) s = ap suc (outcomes-length qs (after s (serve s q)))
 
-words-length : (o : Outcome) → length (words_of o) ≡ outcomeSize
+words-length : (o : Outcome) → length (words_of o) ≡ outcome_size
 words-length (refused e) = refl
 words-length (got (pair a b)) = refl
 words-length (got (number v)) = refl
 words-length (got nothing) = refl
 
-answers-length : (os : List Outcome) → length (outcomeWords os) ≡ length os * outcomeSize
-unfolding outcomeWords
+answers-length : (os : List Outcome) → length (outcome_words os) ≡ length os * outcome_size
+unfolding outcome_words
 answers-length [] = refl
-answers-length (o ∷ os) = omega (arith, length-append (words_of o) (outcomeWords os), words-length o, answers-length os)
+answers-length (o ∷ os) = omega (arith, length-append (words_of o) (outcome_words os), words-length o, answers-length os)
 
 requests-few : (f : ℕ) (ws : List ℤ) → length (requests f ws) ≤ f
 unfolding requests
@@ -115,28 +115,28 @@ requests-few (suc f) (code ∷ n ∷ ws) = go (names n (suc (length ws))) (reque
     go true l = omega arith
     go false l = omega arith
 
-room_for : (words old : List ℤ) (s : System) → let os = (runAsked s (requests (room old) words)).0 in
-    sets old 0 (outcomeWords os) ≡ outcomeWords os ++ drop (0 + length (outcomeWords os)) old
+room_for : (words old : List ℤ) (s : System) → let os = (run_asked s (requests (room old) words)).0 in
+    sets old 0 (outcome_words os) ≡ outcome_words os ++ drop (0 + length (outcome_words os)) old
 room_for words old s =
     let qs = requests (room old) words in
-    let os = (runAsked s qs).0 in
-    let n : length (outcomeWords os) ≤ length old = omega (arith, answers-length os, outcomes-length qs s, requests-few (room old) words) in
-    sets-eq (outcomeWords os) old 0 (omega arith)
+    let os = (run_asked s qs).0 in
+    let n : length (outcome_words os) ≤ length old = omega (arith, answers-length os, outcomes-length qs s, requests-few (room old) words) in
+    sets-eq (outcome_words os) old 0 (omega arith)
 
-pub words-seen : (words old : List ℤ) (s : System) → let qs = requests (room old) words in let os = (runAsked s qs).0 in seenBy qs (sets old 0 (outcomeWords os)) ≡ seenOf qs os
+pub words-seen : (words old : List ℤ) (s : System) → let qs = requests (room old) words in let os = (run_asked s qs).0 in seen_by qs (sets old 0 (outcome_words os)) ≡ seen_of qs os
 words-seen words old s =
     let qs = requests (room old) words in
-    let os = (runAsked s qs).0 in
-    ap (seenBy qs) (room_for words old s) ∙ seen-words qs s (drop (0 + length (outcomeWords os)) old)
+    let os = (run_asked s qs).0 in
+    ap (seen_by qs) (room_for words old s) ∙ seen-words qs s (drop (0 + length (outcome_words os)) old)
 
 -- the same of a call in the middle of a run that stored the words `new`
 pub record CallWords (s : System) (new : List ℤ) (before : List (Option Request)) (q : Request) (os : List Outcome) : Type 0 where
-  pub number : first_word (length before) new ≡ pos (outcomeNumber (outcome (serve (run s (asked before)).1 q)))
-  pub seen : seenBy before new ≡ seenOf before os
+  pub number : first_word (length before) new ≡ pos (outcome_number (outcome (serve (run s (asked before)).1 q)))
+  pub seen : seen_by before new ≡ seen_of before os
 
 pub call-words : (words old new : List ℤ) (s : System) (before behind : List (Option Request)) (q : Request) → requests (room old) words ≡ before ++ (some q ∷ behind)
-    → let os = (runAsked s (requests (room old) words)).0 in new ≡ sets old 0 (outcomeWords os) → CallWords s new before q os
-call-words words old new s before behind q e w = subst (λ qs. new ≡ outcomeWords (runAsked s qs).0 ++ drop (0 + length (outcomeWords (runAsked s qs).0)) old → CallWords s new before q (runAsked s qs).0)
+    → let os = (run_asked s (requests (room old) words)).0 in new ≡ sets old 0 (outcome_words os) → CallWords s new before q os
+call-words words old new s before behind q e w = subst (λ qs. new ≡ outcome_words (run_asked s qs).0 ++ drop (0 + length (outcome_words (run_asked s qs).0)) old → CallWords s new before q (run_asked s qs).0)
     (sym e)
-    (λ z. record { number = ap (first_word (length before)) z ∙ word_at behind q before s _; seen = ap (seenBy before) z ∙ words-before behind q before s _ })
+    (λ z. record { number = ap (first_word (length before)) z ∙ word_at behind q before s _; seen = ap (seen_by before) z ∙ words-before behind q before s _ })
     (w ∙ room_for words old s)

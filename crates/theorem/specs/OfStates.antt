@@ -5,74 +5,74 @@ use Rattle.std.specs.Prelude.{◌≡◌, ◌↔◌, Bool, false, List, [], ◌�
 use Rattle.std.proofs.Math.Bool.{So}
 use Rattle.std.proofs.Math.Option.{Option, none, some}
 use Rattle.spec_model.specs.Basics.{names, named}
-use Rattle.spec_model.specs.Requests.{Request, call, answer, refused, maxCallsEach, madeBy}
-use Rattle.spec_model.specs.Callers.{Transcript, taken, acceptedCalls, refusedBefore}
-use Rattle.spec_model.specs.Refusals.{callsFull}
-use Rattle.table_record.specs.Layout.{rawTable}
-use Rattle.spec_sheet.specs.Text.{write, writeText}
+use Rattle.spec_model.specs.Requests.{Request, call, answer, refused, max_calls_each, made_by}
+use Rattle.spec_model.specs.Callers.{Transcript, taken, accepted_calls, refused_before}
+use Rattle.spec_model.specs.Refusals.{calls_full}
+use Rattle.table_record.specs.Layout.{raw_table}
+use Rattle.spec_sheet.specs.Text.{write, write_text}
 use Rattle.sheet_read.specs.declared.Sheet.{Sheet}
 use Rattle.text_write.specs.declared.Wrote.{Wrote}
 use Rattle.text_write.specs.Written.{written_of}
 use Rattle.state_record.specs.Whole.{Whole as State}
 use Rattle.state_record.specs.Whole.{whole}
-use Rattle.state_record.specs.Meaning.{rawState, systemIn, stateLoaded}
+use Rattle.state_record.specs.Meaning.{raw_state, system_in, state_loaded}
 use Rattle.request_common.specs.Outcome.{Done as Served}
-use Rattle.request_common.specs.Outcome.{outcomeOf}
+use Rattle.request_common.specs.Outcome.{outcome_of}
 use Rattle.request_serve.specs.Serves.{Serves}
-use Rattle.request_words.specs.Words.{requests, outcomeSize}
-use Rattle.request_run.specs.Requested.{runHanded}
+use Rattle.request_words.specs.Words.{requests, outcome_size}
+use Rattle.request_run.specs.Requested.{run_handed}
 use Rattle.request_run.specs.Ran.{Over as Ran}
 use Rattle.request_run.specs.Ran.{room, Runs}
 use Rattle.state_offers.specs.declared.Offered.{Offered}
 use Rattle.state_offers.specs.declared.Offered.TheVariants.{Yes, No}
-use Rattle.state_offers.specs.Chained.{offersHanded, offeredAs}
-use Rattle.theorem.specs.Shown.{Accepts, bookOf, History, Permitted}
+use Rattle.state_offers.specs.Chained.{offers_handed, offered_as}
+use Rattle.theorem.specs.Shown.{Accepts, book_of, History, Permitted}
 
 -- ---- The transcript by the outcomes of a run, four words for each request: it was accepted if the first of them is 0 (L25, U8). What is no request (U6, U7) goes by.
 abbrev pub is_zero : ℤ → Bool
 is_zero (pos n) = eqb n 0
 is_zero (negsuc n) = false
 
-abbrev pub seenBy : List (Option Request) → List ℤ → Transcript
-seenBy [] answers = []
-seenBy (none ∷ qs) answers = seenBy qs (drop outcomeSize answers)
-seenBy (some q ∷ qs) answers = (q, is_zero (get_or answers 0 (pos 1))) ∷ seenBy qs (drop outcomeSize answers)
+abbrev pub seen_by : List (Option Request) → List ℤ → Transcript
+seen_by [] answers = []
+seen_by (none ∷ qs) answers = seen_by qs (drop outcome_size answers)
+seen_by (some q ∷ qs) answers = (q, is_zero (get_or answers 0 (pos 1))) ∷ seen_by qs (drop outcome_size answers)
 
 -- the first word of outcome i: 0, or the number of its refusal
 abbrev pub first_word : ℕ → List ℤ → ℤ
 first_word zero answers = get_or answers 0 (pos 1)
-first_word (suc i) answers = first_word i (drop outcomeSize answers)
+first_word (suc i) answers = first_word i (drop outcome_size answers)
 
 -- ---- f is what the reader made of the bytes.
 pub record OfStates (bytes : List ℕ) (f : Sheet) : Type 0 where
   -- The state made of the sheet (`State::loaded`) begins a history, with nothing in the transcript (L24).
-  pub begins : History f (rawState (whole f.types (stateLoaded f.links f.counts))) []
+  pub begins : History f (raw_state (whole f.types (state_loaded f.links f.counts))) []
   -- A request takes it on, whatever its numbers are; the transcript has whether the outcome is a refusal (L24, L25).
-  pub serves : (s : State) (l : Transcript) (q : Request) (y : Served) → History f (rawState s) l → Serves s q y
-      → History f (rawState y.state) (l ++ ((q, taken (outcomeOf y.outcome)) ∷ []))
+  pub serves : (s : State) (l : Transcript) (q : Request) (y : Served) → History f (raw_state s) l → Serves s q y
+      → History f (raw_state y.state) (l ++ ((q, taken (outcome_of y.outcome)) ∷ []))
   -- A call that is accepted is of a method that the page of the called cell permits (L27), and an answer that is accepted is to a call that the book noted.
-  pub calls : (s : State) (l : Transcript) (subject k m : ℤ) (vs : List ℤ) (y : Served) → History f (rawState s) l
-      → Serves s (call subject k m vs) y → So (taken (outcomeOf y.outcome)) → Permitted (bookOf f l) k (m ∷ [])
-  pub answers : (s : State) (l : Transcript) (subject j : ℤ) (v : Option ℤ) (y : Served) → History f (rawState s) l
-      → Serves s (answer subject j v) y → So (taken (outcomeOf y.outcome)) → So (names j (length (bookOf f l).calls))
+  pub calls : (s : State) (l : Transcript) (subject k m : ℤ) (vs : List ℤ) (y : Served) → History f (raw_state s) l
+      → Serves s (call subject k m vs) y → So (taken (outcome_of y.outcome)) → Permitted (book_of f l) k (m ∷ [])
+  pub answers : (s : State) (l : Transcript) (subject j : ℤ) (v : Option ℤ) (y : Served) → History f (raw_state s) l
+      → Serves s (answer subject j v) y → So (taken (outcome_of y.outcome)) → So (names j (length (book_of f l).calls))
   -- The calls of a subject are as many as its accepted calls (L28).
-  pub made : (s : State) (l : Transcript) → History f (rawState s) l → (n : ℕ) → madeBy n (systemIn s).calls ≡ acceptedCalls n l
+  pub made : (s : State) (l : Transcript) → History f (raw_state s) l → (n : ℕ) → made_by n (system_in s).calls ≡ accepted_calls n l
   -- A call that is not refused before 18 is refused with 18 exactly if its subject's accepted calls are 32 (L29).
-  pub full : (s : State) (l : Transcript) (subject k m : ℤ) (vs : List ℤ) (y : Served) → History f (rawState s) l → Serves s (call subject k m vs) y
-      → refusedBefore (outcomeOf y.outcome) ≡ false → (outcomeOf y.outcome ≡ refused callsFull) ↔ (acceptedCalls (named subject) l ≡ maxCallsEach)
+  pub full : (s : State) (l : Transcript) (subject k m : ℤ) (vs : List ℤ) (y : Served) → History f (raw_state s) l → Serves s (call subject k m vs) y
+      → refused_before (outcome_of y.outcome) ≡ false → (outcome_of y.outcome ≡ refused calls_full) ↔ (accepted_calls (named subject) l ≡ max_calls_each)
   -- A run is not refused, and takes the history on: of the requests in its words, as many as there is room for, the transcript has what the list of outcomes says then (L24, L25).
-  pub runs : (s : State) (l : Transcript) (words old new : List ℤ) (y : Ran) → History f (rawState s) l → Runs s old new (runHanded (rawState s) (room old) words) y
-      → let qs = requests (room old) words in (y.refusal ≡ 0) × (y.served ≡ length qs) × History f (rawState y.state) (l ++ seenBy qs new)
+  pub runs : (s : State) (l : Transcript) (words old new : List ℤ) (y : Ran) → History f (raw_state s) l → Runs s old new (run_handed (raw_state s) (room old) words) y
+      → let qs = requests (room old) words in (y.refusal ≡ 0) × (y.served ≡ length qs) × History f (raw_state y.state) (l ++ seen_by qs new)
   -- A call among them whose first word is none of 5, 6, 14 and 15 has 18 there exactly if its subject's accepted calls before it are 32 (L29).
-  pub ranFull : (s : State) (l : Transcript) (words old new : List ℤ) (y : Ran) → History f (rawState s) l → Runs s old new (runHanded (rawState s) (room old) words) y
+  pub ran_full : (s : State) (l : Transcript) (words old new : List ℤ) (y : Ran) → History f (raw_state s) l → Runs s old new (run_handed (raw_state s) (room old) words) y
       → (before behind : List (Option Request)) (subject k m : ℤ) (vs : List ℤ) → requests (room old) words ≡ before ++ (some (call subject k m vs) ∷ behind)
-      → (n : ℕ) → first_word (length before) new ≡ pos n → refusedBefore (refused n) ≡ false → (n ≡ callsFull) ↔ (acceptedCalls (named subject) (l ++ seenBy before new) ≡ maxCallsEach)
+      → (n : ℕ) → first_word (length before) new ≡ pos n → refused_before (refused n) ≡ false → (n ≡ calls_full) ↔ (accepted_calls (named subject) (l ++ seen_by before new) ≡ max_calls_each)
   -- Offers says yes exactly where the page of that cell, its class and all of its trail, permits the chain, and else no (L26).
-  pub offers : (s : State) (l : Transcript) (k : ℤ) (w : List ℤ) (o : Offered) → History f (rawState s) l → offeredAs o ≡ offersHanded (rawState s) k w
-      → ((o ≡ Yes) ↔ Permitted (bookOf f l) k w) × ((o ≡ No) ↔ (Permitted (bookOf f l) k w → ⊥))
+  pub offers : (s : State) (l : Transcript) (k : ℤ) (w : List ℤ) (o : Offered) → History f (raw_state s) l → offered_as o ≡ offers_handed (raw_state s) k w
+      → ((o ≡ Yes) ↔ Permitted (book_of f l) k w) × ((o ≡ No) ↔ (Permitted (book_of f l) k w → ⊥))
   -- Sheet write gives the bytes back that were read (W9), into any buffer that has room for them (W2 to W4): no derived type is written (W5).
-  pub writes : (s : State) (l : Transcript) (w : Wrote) (old new : List ℕ) → History f (rawState s) l → written_of w new ≡ write (rawTable s.types s.links s.counts) old
-      → written_of w new ≡ writeText bytes old
+  pub writes : (s : State) (l : Transcript) (w : Wrote) (old new : List ℕ) → History f (raw_state s) l → written_of w new ≡ write (raw_table s.types s.links s.counts) old
+      → written_of w new ≡ write_text bytes old
 
 abbrev pub ShownOfStates : Type 0
 ShownOfStates = (bytes : List ℕ) (f : Sheet) → Accepts bytes f → OfStates bytes f

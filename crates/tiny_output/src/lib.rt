@@ -1,10 +1,10 @@
 // The program `tiny`: every tiny sheet, one behind the other in a lent buffer (P21, P26). Each is stored as a table and written by the sheet's own writer
 // (crate `sheet_write_table`); no text of it is kept.
 ghost use Rattle.std.specs.Prelude.{◌≡◌, ◌≤◌, ◌<◌, length};
-ghost use Rattle.table_record.specs.Store.{typesSize};
-ghost use Rattle.spec_sheet.specs.Text.{text, writeText};
-ghost use Rattle.spec_tiny.specs.Tiny.{tinyCount, tinyText};
-ghost use Rattle.spec_tiny.specs.Numbered.{tinyAt};
+ghost use Rattle.table_record.specs.Store.{types_size};
+ghost use Rattle.spec_sheet.specs.Text.{text, write_text};
+ghost use Rattle.spec_tiny.specs.Tiny.{tiny_count, tiny_text};
+ghost use Rattle.spec_tiny.specs.Numbered.{tiny_at};
 ghost use Rattle.text_write.specs.Fill.{Filled};
 ghost use Rattle.text_write.specs.Written.{written_of};
 
@@ -23,10 +23,10 @@ fn write_one(
     links: &[u8; LINK_BYTES],
     i: usize,
 ) -> usize
-    requires { (i < tinyCount) × (length types.old ≡ typesSize) }
-    ensures is { Filled buf.old buf.new (text (tinyAt i)) result }
+    requires { (i < tiny_count) × (length types.old ≡ types_size) }
+    ensures is { Filled buf.old buf.new (text (tiny_at i)) result }
     ensures few { result ≤ 200 }
-    ensures size { length types.new ≡ typesSize }
+    ensures size { length types.new ≡ types_size }
 {
     let t = tiny_record::type_of(i);
     table_store::put_type(types, 0, t);
@@ -35,8 +35,8 @@ fn write_one(
 }
 
 fn write_all(buf: &mut [u8], types: &mut [u8; TYPE_BYTES], links: &[u8; LINK_BYTES]) -> usize
-    requires { length types.old ≡ typesSize }
-    ensures { Filled buf.old buf.new tinyText result }
+    requires { length types.old ≡ types_size }
+    ensures { Filled buf.old buf.new tiny_text result }
 {
     let mut at: usize = 0;
     let mut i: usize = 0;
@@ -51,7 +51,7 @@ fn write_all(buf: &mut [u8], types: &mut [u8; TYPE_BYTES], links: &[u8; LINK_BYT
 
 // Every tiny sheet in front of a buffer of any length: 4 where they do not fit, and then the buffer stays as it was.
 pub fn tiny(buf: &mut [u8]) -> Wrote
-    ensures { written_of result buf.new ≡ writeText tinyText buf.old }
+    ensures { written_of result buf.new ≡ write_text tiny_text buf.old }
 {
     if buf.len() < PRINTED_BYTES {
         return Wrote::Refused(refusal::SHORT_BUFFER);

@@ -1,11 +1,11 @@
 // The record of the type of each tiny sheet, made of the sheet's number (P22 to P24), and the counts of its table.
 ghost use Rattle.std.specs.Prelude.{◌≡◌, ◌<◌};
 ghost use Rattle.spec_model.specs.Table.{type_at};
-ghost use Rattle.spec_model.specs.Records.{typeRecord};
-ghost use Rattle.table_record.specs.Store.{rawMethod, rawOf};
-ghost use Rattle.spec_tiny.specs.Tiny.{tinyCount};
-ghost use Rattle.spec_tiny.specs.Numbered.{tinyAt};
-ghost use Rattle.tiny_record.specs.Plan.{bareRaw, signedRaw, choiceRaw, plan_of, planRaw, tinyCounts};
+ghost use Rattle.spec_model.specs.Records.{type_record};
+ghost use Rattle.table_record.specs.Store.{raw_method, raw_of};
+ghost use Rattle.spec_tiny.specs.Tiny.{tiny_count};
+ghost use Rattle.spec_tiny.specs.Numbered.{tiny_at};
+ghost use Rattle.tiny_record.specs.Plan.{bare_raw, signed_raw, choice_raw, plan_of, plan_raw, tiny_counts};
 
 use base_numbers::narrow;
 use table_record::{Counts, Head, Method, TypeRec};
@@ -33,7 +33,7 @@ struct Plan {
 }
 
 fn bare(state: u8) -> Method
-    ensures { rawMethod result ≡ bareRaw state }
+    ensures { raw_method result ≡ bare_raw state }
 {
     Method {
         state,
@@ -46,7 +46,7 @@ fn bare(state: u8) -> Method
 // Signature j: `()-`, `()0`, `(0)-`, `(0)0`.
 fn signed(state: u8, j: usize) -> Method
     requires { j < 4 }
-    ensures { rawMethod result ≡ signedRaw state j }
+    ensures { raw_method result ≡ signed_raw state j }
 {
     let count = narrow(j / 2);
     let answer = narrow(j % 2);
@@ -61,7 +61,7 @@ fn signed(state: u8, j: usize) -> Method
 // Choice k (P23).
 fn choice(own: u8, k: usize) -> Method
     requires { k < 10 }
-    ensures { rawMethod result ≡ choiceRaw own k }
+    ensures { raw_method result ≡ choice_raw own k }
 {
     if k == 0 {
         return bare(Method::DENIED);
@@ -83,7 +83,7 @@ fn choice(own: u8, k: usize) -> Method
 
 // The choices of sheet i, the first method as the slowest (P24).
 fn planned(i: usize) -> Plan
-    requires { i < tinyCount }
+    requires { i < tiny_count }
     ensures { result ≡ plan_of i }
 {
     if i < ONE_OWN {
@@ -117,7 +117,7 @@ fn planned(i: usize) -> Plan
 // The record of a type with these choices.
 fn planned_record(p: Plan) -> TypeRec
     requires { (p.first < 10) × (p.second < 10) }
-    ensures { rawOf result ≡ planRaw p }
+    ensures { raw_of result ≡ plan_raw p }
 {
     let a = choice(p.own, p.first);
     let b = choice(p.own, p.second);
@@ -136,8 +136,8 @@ fn planned_record(p: Plan) -> TypeRec
 
 // The record of the type of sheet i.
 pub fn type_of(i: usize) -> TypeRec
-    requires { i < tinyCount }
-    ensures { rawOf result ≡ typeRecord (type_at (tinyAt i) 0) }
+    requires { i < tiny_count }
+    ensures { raw_of result ≡ type_record (type_at (tiny_at i) 0) }
 {
     let p = planned(i);
     planned_record(p)
@@ -145,8 +145,8 @@ pub fn type_of(i: usize) -> TypeRec
 
 // The counts of the table of sheet i.
 pub fn counts_of(i: usize) -> Counts
-    requires { i < tinyCount }
-    ensures { result ≡ tinyCounts (tinyAt i).methods }
+    requires { i < tiny_count }
+    ensures { result ≡ tiny_counts (tiny_at i).methods }
 {
     let mut methods = 1;
     if TWO <= i {

@@ -7,7 +7,7 @@ use mathlib.Core.Path.{◌≡◌, refl}
 use Rattle.crossing_layers.proofs.Carrying.{Goes, goes-starts, goes-ready, goes-ends, goes-stops, goes-next}
 use Rattle.crossing_layers.proofs.carry.Statement.{statement}
 use Rattle.crossing_layers.proofs.carry.Tie as tie
-use Rattle.crossing_targets.specs.Targets.{maxLayers}
+use Rattle.crossing_targets.specs.Targets.{max_layers}
 
 abbrev invariant-loop : tie.invariant-loop
 invariant-loop types₀ links c s p r targets x₀ n i₀ types x i = Goes types₀ links c x₀.places s p r targets.list targets.count types x i
@@ -16,7 +16,7 @@ abbrev decreases-loop : tie.decreases-loop
 decreases-loop types₀ links c s p r targets x₀ n i₀ types x i = targets.count - i
 
 -- the array has 129 elements
-long : (c : tie.Start invariant-loop decreases-loop) → length c.args.t7.list ≡ maxLayers
+long : (c : tie.Start invariant-loop decreases-loop) → length c.args.t7.list ≡ max_layers
 long c = search rules
 
 loop-holds : tie.Need-loop-init invariant-loop decreases-loop

@@ -7,9 +7,9 @@ use borrow.Author.Rules.{rules}
 use borrow.Author.Tests.{not-true, not-false}
 use Rattle.spec_model.specs.Table.{Table}
 use Rattle.spec_model.specs.Relations.{related, conforms, strict}
-use Rattle.spec_model.specs.Crossing.{placeAt, placeType}
-use Rattle.table_record.specs.Store.{tableIn}
-use Rattle.state_record.specs.View.{placesIn}
+use Rattle.spec_model.specs.Crossing.{place_at, place_type}
+use Rattle.table_record.specs.Store.{table_in}
+use Rattle.state_record.specs.View.{places_in}
 use Rattle.crossing_meet.proofs.Laws.{meets-passes, meets-not-strict, closable, meets-types-full, closed-byte, meets-places-full, meets-adapts}
 use Rattle.crossing_meet.proofs.meet.Statement.{statement}
 use Rattle.crossing_meet.proofs.meet.Tie as tie
@@ -18,11 +18,11 @@ use Rattle.crossing_meet.proofs.meet.Tie as tie
 abbrev kind : tie.After-place-type → ℕ
 kind c = c.place-type.result
 
-kind-is : (c : tie.After-place-type) → kind c ≡ placeType (placeAt (placesIn c.before.before.args.ps) c.before.before.args.p)
-kind-is c = c.place-type.ensures.0 ∙ ap placeType (c.before.place_at.ensures.1 c.before.before.requires.1.place)
+kind-is : (c : tie.After-place-type) → kind c ≡ place_type (place_at (places_in c.before.before.args.ps) c.before.before.args.p)
+kind-is c = c.place-type.ensures.0 ∙ ap place_type (c.before.place_at.ensures.1 c.before.before.requires.1.place)
 
 abbrev U : tie.After-place-type → Table
-U c = let a = c.before.before.args in tableIn a.types.now a.links.now a.c
+U c = let a = c.before.before.args in table_in a.types.now a.links.now a.c
 
 -- the tests that are passed, and from each place the one before it
 abbrev met-type : tie.Else1 → tie.After-place-type

@@ -4,7 +4,7 @@ use mathlib.Core.Bool.{true, false}
 use borrow.Author.Rules.{rules}
 use borrow.Author.Tests.{not-true, not-false}
 use Rattle.spec_model.specs.Relations.{related, loose, subtype}
-use Rattle.table_record.specs.Store.{tableIn}
+use Rattle.table_record.specs.Store.{table_in}
 use Rattle.crossing_one.proofs.Laws.{restrict-unrelated, restrict-stays, sub-asked, restrict-types-full, restrict-ready, restrict-meets}
 use Rattle.crossing_one.proofs.restrict_to.Statement.{statement}
 use Rattle.crossing_one.proofs.restrict_to.Tie as tie
@@ -13,13 +13,13 @@ use Rattle.crossing_one.proofs.restrict_to.Tie as tie
 abbrev start : tie.Else1 → tie.Start
 start c = c.before.before.before
 
-less : (c : tie.Else1) → let a = (start c).args in false ≡ related subtype (tableIn a.types.now a.links.now a.c) a.x.to a.x.from
+less : (c : tie.Else1) → let a = (start c).args in false ≡ related subtype (table_in a.types.now a.links.now a.c) a.x.to a.x.from
 less c = sym c.if1.false ∙ c.before.asked.ensures
 
 abbrev first : tie.Else2 → tie.Else1
 first c = c.before.before.before
 
-met : (c : tie.Else2) → let a = (start (first c)).args in true ≡ related loose (tableIn a.types.now a.links.now a.c) a.x.to a.x.from
+met : (c : tie.Else2) → let a = (start (first c)).args in true ≡ related loose (table_in a.types.now a.links.now a.c) a.x.to a.x.from
 met c = sym (not-false c.before.asked2.result c.if2.false) ∙ c.before.asked2.ensures
 
 abbrev second : tie.After-sub-type → tie.Else2

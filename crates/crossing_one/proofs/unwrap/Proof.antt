@@ -4,7 +4,7 @@ use mathlib.Core.Bool.{true}
 use borrow.Author.Rules.{rules}
 use borrow.Author.Tests.{not-true, not-false}
 use Rattle.spec_model.specs.Relations.{related, free}
-use Rattle.table_record.specs.Store.{tableIn}
+use Rattle.table_record.specs.Store.{table_in}
 use Rattle.crossing_one.proofs.Laws.{unwrap-unrelated, unwrap-not-owner, unwrap_meets}
 use Rattle.crossing_one.proofs.unwrap.Statement.{statement}
 use Rattle.crossing_one.proofs.unwrap.Tie as tie
@@ -13,7 +13,7 @@ use Rattle.crossing_one.proofs.unwrap.Tie as tie
 abbrev start : tie.Else1 → tie.Start
 start c = c.before.before.before
 
-met : (c : tie.Else1) → let a = (start c).args in true ≡ related free (tableIn a.types.now a.links.now a.c) a.x.to a.x.from
+met : (c : tie.Else1) → let a = (start c).args in true ≡ related free (table_in a.types.now a.links.now a.c) a.x.to a.x.from
 met c = sym (not-false c.before.asked.result c.if1.false) ∙ c.before.asked.ensures
 
 abbrev first : tie.Else2 → tie.Else1

@@ -9,17 +9,17 @@ use lib.ListN.{length, take, length-set}
 use Rattle.crossing_targets.proofs.Laws.{call-layers-next, call-layers-end}
 use Rattle.crossing_targets.proofs.call_layers.Statement.{statement}
 use Rattle.crossing_targets.proofs.call_layers.Tie as tie
-use Rattle.crossing_targets.specs.Targets.{maxLayers}
-use Rattle.spec_model.specs.Crossing.{maxPlaces}
+use Rattle.crossing_targets.specs.Targets.{max_layers}
+use Rattle.spec_model.specs.Crossing.{max_places}
 
 abbrev invariant-loop : tie.invariant-loop
-invariant-loop ty l n list₀ i₀ list i = (i ≤ l.count) × (length list ≡ maxLayers) × (take (i + 1) list ≡ ty ∷ take i l.list)
+invariant-loop ty l n list₀ i₀ list i = (i ≤ l.count) × (length list ≡ max_layers) × (take (i + 1) list ≡ ty ∷ take i l.list)
 
 abbrev decreases-loop : tie.decreases-loop
 decreases-loop ty l n list₀ i₀ list i = l.count - i
 
 -- the array has 128 elements
-long : (c : tie.Start invariant-loop decreases-loop) → length c.args.t2.list ≡ maxPlaces
+long : (c : tie.Start invariant-loop decreases-loop) → length c.args.t2.list ≡ max_places
 long c = search rules
 
 loop-holds : tie.Need-loop-init invariant-loop decreases-loop

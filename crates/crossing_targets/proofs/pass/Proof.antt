@@ -8,24 +8,24 @@ use native.Mathlib.Omega.{arith}
 use borrow.Author.Rules.{rules}
 use lib.ListN.{length}
 use mathlib.Core.Path.{◌≡◌, refl}
-use Rattle.table_record.specs.Store.{tableIn}
+use Rattle.table_record.specs.Store.{table_in}
 use Rattle.crossing_targets.proofs.Laws.{PassRest, pass-starts, pass-stops, pass-next, pass-ends}
 use Rattle.crossing_targets.proofs.pass.Statement.{statement}
 use Rattle.crossing_targets.proofs.pass.Tie as tie
-use Rattle.crossing_targets.specs.Targets.{maxLayers}
+use Rattle.crossing_targets.specs.Targets.{max_layers}
 
 abbrev invariant-loop : tie.invariant-loop
-invariant-loop types c v targets n i₀ i = (i ≤ targets.count) × ((l : List ℕ) → PassRest (tableIn types l c) (to_z w64 v) targets.list targets.count i)
+invariant-loop types c v targets n i₀ i = (i ≤ targets.count) × ((l : List ℕ) → PassRest (table_in types l c) (to_z w64 v) targets.list targets.count i)
 
 abbrev decreases-loop : tie.decreases-loop
 decreases-loop types c v targets n i₀ i = targets.count - i
 
 -- the array has 129 elements
-long : (c : tie.Start invariant-loop decreases-loop) → length c.args.t4.list ≡ maxLayers
+long : (c : tie.Start invariant-loop decreases-loop) → length c.args.t4.list ≡ max_layers
 long c = search rules
 
 loop-holds : tie.Need-loop-init invariant-loop decreases-loop
-loop-holds c = let a = c.args in (omega arith, λ l. pass-starts (tableIn a.types.now l a.c) (to_z w64 (of_z w64 a.v)) a.t4.list a.t4.count)
+loop-holds c = let a = c.args in (omega arith, λ l. pass-starts (table_in a.types.now l a.c) (to_z w64 (of_z w64 a.v)) a.t4.list a.t4.count)
 
 mul-pass-one : tie.Need-overflow-mul-pass-one invariant-loop decreases-loop
 mul-pass-one c = omega (arith, c.loop-test.true, c.before.before.requires.1)
@@ -40,7 +40,7 @@ returns : tie.Need-returns invariant-loop decreases-loop
 returns c =
     let a = c.before.before.before.before.before.args in
     let w = c.before.before.before.before.loop in
-    λ l. rw (to_z-of_z c.before.before.before.before.before.ranges.v) at (pass-stops (tableIn a.types.now l a.c) (to_z w64 (of_z w64 a.v)) a.t4.list
+    λ l. rw (to_z-of_z c.before.before.before.before.before.ranges.v) at (pass-stops (table_in a.types.now l a.c) (to_z w64 (of_z w64 a.v)) a.t4.list
     a.t4.count (long c.before.before.before.before.before) c.before.before.before.before.before.requires.1 w.i c.before.before.before.loop-test.true (w.invariant.1 l)
     _ refl c.before.pass-one.result (c.before.pass-one.ensures l) c.if1.true)
 
@@ -55,14 +55,14 @@ loop-again c =
     let at = c.before.before.before.before.before in let a = at.args in
     let w = c.before.before.before.before.loop in (
       omega (arith, c.before.before.before.loop-test.true),
-      λ l. pass-next (tableIn a.types.now l a.c) (to_z w64 (of_z w64 a.v)) a.t4.list a.t4.count (long at) at.requires.1 w.i c.before.before.before.loop-test.true
+      λ l. pass-next (table_in a.types.now l a.c) (to_z w64 (of_z w64 a.v)) a.t4.list a.t4.count (long at) at.requires.1 w.i c.before.before.before.loop-test.true
           (w.invariant.1 l) _ refl c.before.pass-one.result (c.before.pass-one.ensures l) c.if1.false,
     )
 
 returns-2 : tie.Need-returns-2 invariant-loop decreases-loop
 returns-2 c =
     let a = c.before.before.args in
-    λ l. rw (to_z-of_z c.before.before.ranges.v) at (pass-ends (tableIn a.types.now l a.c) (to_z w64 (of_z w64 a.v)) a.t4.list a.t4.count c.before.loop.i
+    λ l. rw (to_z-of_z c.before.before.ranges.v) at (pass-ends (table_in a.types.now l a.c) (to_z w64 (of_z w64 a.v)) a.t4.list a.t4.count c.before.loop.i
     c.loop-test.false (c.before.loop.invariant.1 l))
 
 pub pass_spec : {M : Type 1} → statement M

@@ -8,16 +8,16 @@ use lib.ListN.{length, take, length-set}
 use Rattle.crossing_targets.proofs.Laws.{back-starts, back-next, back-ends}
 use Rattle.crossing_targets.proofs.reversed.Statement.{statement}
 use Rattle.crossing_targets.proofs.reversed.Tie as tie
-use Rattle.crossing_targets.specs.Targets.{maxLayers}
+use Rattle.crossing_targets.specs.Targets.{max_layers}
 
 abbrev invariant-loop : tie.invariant-loop
-invariant-loop x n list₀ i₀ list i = (i ≤ x.count) × (length list ≡ maxLayers) × ((k : ℕ) → i + k ≡ x.count → take i list ++ reverse (take k x.list) ≡ reverse (take x.count x.list))
+invariant-loop x n list₀ i₀ list i = (i ≤ x.count) × (length list ≡ max_layers) × ((k : ℕ) → i + k ≡ x.count → take i list ++ reverse (take k x.list) ≡ reverse (take x.count x.list))
 
 abbrev decreases-loop : tie.decreases-loop
 decreases-loop x n list₀ i₀ list i = x.count - i
 
 -- the array has 129 elements
-long : (c : tie.Start invariant-loop decreases-loop) → length c.args.t1.list ≡ maxLayers
+long : (c : tie.Start invariant-loop decreases-loop) → length c.args.t1.list ≡ max_layers
 long c = search rules
 
 loop-holds : tie.Need-loop-init invariant-loop decreases-loop

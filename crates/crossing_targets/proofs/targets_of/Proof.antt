@@ -6,21 +6,21 @@ use native.Mathlib.Omega.{arith}
 use borrow.Author.Rules.{rules}
 use lib.ListN.{length, take, length-set}
 use Rattle.spec_model.specs.Check.{answer_of}
-use Rattle.spec_model.specs.Records.{answerCode}
-use Rattle.table_record.specs.Store.{tableIn}
-use Rattle.crossing_targets.specs.Targets.{slot_at, maxLayers}
+use Rattle.spec_model.specs.Records.{answer_code}
+use Rattle.table_record.specs.Store.{table_in}
+use Rattle.crossing_targets.specs.Targets.{slot_at, max_layers}
 use Rattle.crossing_targets.proofs.Laws.{targets_next, targets-end}
 use Rattle.crossing_targets.proofs.targets_of.Statement.{statement}
 use Rattle.crossing_targets.proofs.targets_of.Tie as tie
 
 abbrev invariant-loop : tie.invariant-loop
-invariant-loop types c m s w n list₀ i₀ list i = (i ≤ w.count) × (length list ≡ maxLayers) × ((l : List ℕ) → map answer_of (take i list) ≡ map (slot_at (tableIn types l c) m s) (take i w.list))
+invariant-loop types c m s w n list₀ i₀ list i = (i ≤ w.count) × (length list ≡ max_layers) × ((l : List ℕ) → map answer_of (take i list) ≡ map (slot_at (table_in types l c) m s) (take i w.list))
 
 abbrev decreases-loop : tie.decreases-loop
 decreases-loop types c m s w n list₀ i₀ list i = w.count - i
 
 -- the array has 129 elements
-long : (c : tie.Start invariant-loop decreases-loop) → length c.args.t5.list ≡ maxLayers
+long : (c : tie.Start invariant-loop decreases-loop) → length c.args.t5.list ≡ max_layers
 long c = search rules
 
 loop-holds : tie.Need-loop-init invariant-loop decreases-loop
@@ -53,15 +53,15 @@ loop-again c =
     let w = c.before.before.before.before.loop in (
       omega (arith, c.before.before.before.loop-test.true),
       length-set w.list w.i _ ∙ w.invariant.1,
-      λ l. targets_next (slot_at (tableIn a.types.now l a.c) a.m a.s) w.list a.t5.list w.i _ w.invariant.1 (long c.before.before.before.before.before)
+      λ l. targets_next (slot_at (table_in a.types.now l a.c) a.m a.s) w.list a.t5.list w.i _ w.invariant.1 (long c.before.before.before.before.before)
           (omega (arith, c.before.before.before.loop-test.true, c.before.before.before.before.before.requires.1))
-          (c.target_at.ensures l ∙ ap (λ (t : ℕ). answerCode (slot_at (tableIn a.types.now l a.c) a.m a.s t)) c.before.wide.ensures.0) (w.invariant.2 l),
+          (c.target_at.ensures l ∙ ap (λ (t : ℕ). answer_code (slot_at (table_in a.types.now l a.c) a.m a.s t)) c.before.wide.ensures.0) (w.invariant.2 l),
     )
 
 returns : tie.Need-returns invariant-loop decreases-loop
 returns c =
     let a = c.before.before.args in (
-      λ l. targets-end (slot_at (tableIn a.types.now l a.c) a.m a.s) c.before.loop.list a.t5.list a.t5.count c.before.loop.i c.before.loop.invariant.0
+      λ l. targets-end (slot_at (table_in a.types.now l a.c) a.m a.s) c.before.loop.list a.t5.list a.t5.count c.before.loop.i c.before.loop.invariant.0
           c.loop-test.false
           (c.before.loop.invariant.2 l),
       refl,

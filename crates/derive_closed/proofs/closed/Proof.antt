@@ -6,7 +6,7 @@ use borrow.Author.Rules.{rules}
 use Rattle.spec_model.specs.Table.{closed}
 use Rattle.base_numbers.proofs.narrow.Reads as narrow-reads
 use Rattle.derive_slots.proofs.slot_at.Reads as slot-at-reads
-use Rattle.derive_slots.specs.Slots.{methodSlots}
+use Rattle.derive_slots.specs.Slots.{method_slots}
 use Rattle.derive_record.proofs.Begins.{closed-begins}
 use Rattle.derive_sub_sup.proofs.Ends.{Started, started, settled, new-ready, start_loop, slot-ready, slot_read, finish-ready, new-full, new-at}
 use Rattle.derive_sub_sup.proofs.Turns.{Loop, Turn, turn-empty, argument-ready, argument-full, argument-low, argument-turn, answer-ready, answer-full, answer-low, answer-turn}
@@ -55,7 +55,7 @@ begun c = started c.before.before.before.before.before.before.requires.0 refl (o
 -- the slot as it is read from the bytes
 turn : (c : lts.After-slot-at calls reads.Pre reads.Post invariant-loop decreases-loop)
     → let a = c.before.before.before.before.before.before.before.before.before.before.before.args in let st = c.before.before.before.before.before.start in
-    let l = c.before.before.before.loop in Turn closed a.c a.c.types st.result st.new.0 l.b (a.c.methods * methodSlots) l.bytes l.m l.k c.slot_at.result
+    let l = c.before.before.before.loop in Turn closed a.c a.c.types st.result st.new.0 l.b (a.c.methods * method_slots) l.bytes l.m l.k c.slot_at.result
 turn c = record {
   now = c.before.before.before.loop.invariant;
   test = c.before.before.loop-test.true;

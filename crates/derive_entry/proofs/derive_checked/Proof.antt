@@ -2,9 +2,9 @@
 use mathlib.Core.Path.{refl, sym, subst}
 use Rattle.spec_model.specs.Restriction.{derived}
 use Rattle.spec_model.specs.Check.{kind_of}
-use Rattle.spec_model.specs.Refusals.{typesFull}
-use Rattle.table_record.specs.Store.{tableIn}
-use Rattle.derive_entry.specs.Result.{DerivesHanded, refusedWith}
+use Rattle.spec_model.specs.Refusals.{types_full}
+use Rattle.table_record.specs.Store.{table_in}
+use Rattle.derive_entry.specs.Result.{DerivesHanded, refused_with}
 use Rattle.derive_entry.proofs.Laws.{ready, refused-derives, full_is, at-derives}
 use borrow.Author.Rules.{rules}
 use Rattle.derive_entry.proofs.derive_checked.Statement.{statement}
@@ -30,7 +30,7 @@ returns c = λ l.
     let a = c.before.before.before.before.before.before.args in
     let d = c.before.before.derive-kind in
     let full = full_is a.b.now d.new.0 a.c (kind_of a.kind) a.t a.s d.ensures l c.enum_told.given.1 in
-    subst (λ z. DerivesHanded a.b.now l a.c (derived (tableIn a.b.now l a.c) (kind_of a.kind) a.t a.s) (refusedWith typesFull z a.c))
+    subst (λ z. DerivesHanded a.b.now l a.c (derived (table_in a.b.now l a.c) (kind_of a.kind) a.t a.s) (refused_with types_full z a.c))
     (sym c.before.before.before.before.copied.ensures.0)
     (refused-derives a.b.now l a.c refl full)
 

@@ -6,7 +6,7 @@ use Rattle.spec_model.specs.Table.{Kind}
 use Rattle.spec_model.specs.Check.{kind_of}
 use Rattle.spec_model.proofs.Rules.{first, second}
 use Rattle.table_record.proofs.Codes.{closed-kind}
-use Rattle.table_record.specs.Store.{refIn}
+use Rattle.table_record.specs.Store.{ref_in}
 use Rattle.derive_sub_sup.specs.Link.{Derives}
 use Rattle.derive_entry.proofs.Laws.{closed-asked}
 use Rattle.derive_entry.proofs.derive_kind.Statement.{statement}
@@ -33,8 +33,8 @@ returns-2 c =
 closed-type-requires : tie.Need-closed-type-requires
 closed-type-requires c κs =
     let s = c.before.before.before in
-    let left = refIn s.args.c.types s.args.b.now s.args.t in
-    let right = refIn s.args.c.types s.args.b.now s.args.s in
+    let left = ref_in s.args.c.types s.args.b.now s.args.t in
+    let right = ref_in s.args.c.types s.args.b.now s.args.s in
     let refs = closed-asked s.args.kind (left && right) c.before.before.if1.false c.before.if2.false s.requires.1 in
     (s.requires.0, first left right refs, second left right refs)
 

@@ -2,7 +2,7 @@
 use mathlib.Core.Path.{sym, ◌∙◌}
 use borrow.Author.Tests.{not-true, not-false}
 use borrow.Author.Rules.{rules}
-use Rattle.table_record.specs.Store.{refIn}
+use Rattle.table_record.specs.Store.{ref_in}
 use Rattle.derive_record.proofs.Begins.{not_left}
 use Rattle.table_check_links.proofs.Steps.{goes}
 use Rattle.derive_entry.proofs.Laws.{asked-both, asked-none, asked-closed}
@@ -22,7 +22,7 @@ returns-3 : tie.Need-returns-3
 returns-3 c =
     let a = c.before.before.before.before.args in
     let r = c.before.names-ref in
-    asked-closed a.kind _ _ c.before.before.if2.false (sym (not_left _ (refIn a.n a.b.now a.s) (sym r.ensures ∙ not-true r.result c.if3.true)))
+    asked-closed a.kind _ _ c.before.before.if2.false (sym (not_left _ (ref_in a.n a.b.now a.s) (sym r.ensures ∙ not-true r.result c.if3.true)))
 
 names-ref-requires-2 : tie.Need-names-ref-requires-2
 names-ref-requires-2 c κs = search rules

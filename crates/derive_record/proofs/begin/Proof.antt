@@ -1,7 +1,7 @@
 -- What needs no new type: itself (D12), the main side of numbers (D13), or one with the key that is known (D14); every return is the definition's next case.
 use mathlib.Core.Path.{sym, ◌∙◌}
 use borrow.Author.Tests.{not-true, not-false}
-use Rattle.table_record.specs.Store.{refIn}
+use Rattle.table_record.specs.Store.{ref_in}
 use Rattle.derive_record.proofs.Begins.{begins-self, begins-number, begins-search, not_left, not_right}
 use native.Mathlib.Omega.{arith}
 use borrow.Author.Rules.{rules}
@@ -21,7 +21,7 @@ returns-2 : tie.Need-returns-2
 returns-2 c = let a = c.before.before.before.before.args in
     begins-number a.kind a.t a.s c.before.before.before.before.requires.0 a.c a.n a.b.now c.before.before.main-side.result
     c.before.before.main-side.ensures c.before.before.before.if1.false
-    (not_left (refIn a.n a.b.now a.t) (refIn a.n a.b.now a.s) (sym c.before.names-ref.ensures ∙ not-true c.before.names-ref.result c.if2.true))
+    (not_left (ref_in a.n a.b.now a.t) (ref_in a.n a.b.now a.s) (sym c.before.names-ref.ensures ∙ not-true c.before.names-ref.result c.if2.true))
 
 names-ref-requires-2 : tie.Need-names-ref-requires-2
 names-ref-requires-2 c κs = c.before.before.before.before.requires.1.types
@@ -30,7 +30,7 @@ returns-3 : tie.Need-returns-3
 returns-3 c = let a = c.before.before.before.before.before.before.args in
     begins-number a.kind a.t a.s c.before.before.before.before.before.before.requires.0 a.c a.n a.b.now c.before.before.before.before.main-side.result
     c.before.before.before.before.main-side.ensures c.before.before.before.before.before.if1.false
-    (not_right (refIn a.n a.b.now a.t) (refIn a.n a.b.now a.s) (sym c.before.names-ref2.ensures ∙ not-true c.before.names-ref2.result c.if3.true))
+    (not_right (ref_in a.n a.b.now a.t) (ref_in a.n a.b.now a.s) (sym c.before.names-ref2.ensures ∙ not-true c.before.names-ref2.result c.if3.true))
 
 search-requires : tie.Need-search-requires
 search-requires c κs = (

@@ -1,11 +1,11 @@
 -- The invariant: the search over all types is the search from i on. Rests on `search-starts`, `search-hit`, `search-next` and `search-end`.
 use mathlib.Core.Path.{◌≡◌, sym, ap, ◌∙◌}
 use Prim.Native.Nat.{ℕ, ◌-◌, ◌≤◌}
-use Rattle.spec_model.specs.Restriction.{isKey, find}
+use Rattle.spec_model.specs.Restriction.{is_key, find}
 use Rattle.spec_model.specs.Check.{kind_of}
 use Rattle.table_record.specs.declared.Head.{Head}
-use Rattle.table_record.specs.Store.{types_in, typesTo}
-use Rattle.derive_slots.specs.Slots.{keyIn}
+use Rattle.table_record.specs.Store.{types_in, types_to}
+use Rattle.derive_slots.specs.Slots.{key_in}
 use Rattle.derive_record.proofs.Begins.{Rest, search-starts, search-hit, search-next, search-end}
 use native.Mathlib.Omega.{arith}
 use borrow.Author.Rules.{rules}
@@ -13,7 +13,7 @@ use Rattle.derive_record.proofs.lookup.Statement.{statement}
 use Rattle.derive_record.proofs.lookup.Tie as tie
 
 abbrev invariant-loop : tie.invariant-loop
-invariant-loop b n key i₀ i = (i₀ ≤ i) × (i ≤ n) × ((ms : ℕ) → find (kind_of key.kind) key.left key.right 0 (typesTo ms i₀ n (types_in b)) ≡ Rest (kind_of key.kind) key.left
+invariant-loop b n key i₀ i = (i₀ ≤ i) × (i ≤ n) × ((ms : ℕ) → find (kind_of key.kind) key.left key.right 0 (types_to ms i₀ n (types_in b)) ≡ Rest (kind_of key.kind) key.left
     key.right ms i₀ n (types_in b) i)
 
 abbrev decreases-loop : tie.decreases-loop
@@ -37,7 +37,7 @@ returns : tie.Need-returns invariant-loop decreases-loop
 returns c = let a = c.before.before.before.before.before.args in let k = a.key in let l = c.before.before.before.before.loop in
     search-hit (kind_of k.kind) k.left k.right a.c.methods a.c.sheet a.n (types_in a.b.now) l.i l.invariant.0 (l.invariant.2 a.c.methods)
     c.before.before.before.loop-test.true
-    (sym c.if1.true ∙ c.before.is_key.ensures ∙ ap (λ (h : Head). isKey (kind_of k.kind) k.left k.right (keyIn h)) c.before.before.get-head.ensures)
+    (sym c.if1.true ∙ c.before.is_key.ensures ∙ ap (λ (h : Head). is_key (kind_of k.kind) k.left k.right (key_in h)) c.before.before.get-head.ensures)
 
 add-i : tie.Need-overflow-add-i invariant-loop decreases-loop
 add-i c = search rules
@@ -50,7 +50,7 @@ loop-again c = let a = c.before.before.before.before.before.args in let k = a.ke
   omega (arith, l.invariant.0),
   omega (arith, c.before.before.before.loop-test.true),
   λ ms. search-next (kind_of k.kind) k.left k.right ms a.c.sheet a.n (types_in a.b.now) l.i l.invariant.0 (l.invariant.2 ms) c.before.before.before.loop-test.true
-      (sym c.if1.false ∙ c.before.is_key.ensures ∙ ap (λ (h : Head). isKey (kind_of k.kind) k.left k.right (keyIn h)) c.before.before.get-head.ensures),
+      (sym c.if1.false ∙ c.before.is_key.ensures ∙ ap (λ (h : Head). is_key (kind_of k.kind) k.left k.right (key_in h)) c.before.before.get-head.ensures),
 )
 
 returns-2 : tie.Need-returns-2 invariant-loop decreases-loop

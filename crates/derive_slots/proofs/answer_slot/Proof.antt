@@ -4,7 +4,7 @@ use Prim.Native.Nat.{ℕ}
 use native.Mathlib.Omega.{arith}
 use borrow.Author.Rules.{rules}
 use Rattle.spec_model.specs.Check.{answer_of}
-use Rattle.derive_slots.specs.Slots.{answerSlot}
+use Rattle.derive_slots.specs.Slots.{answer_slot}
 use Rattle.derive_slots.proofs.Laws.{no-left-answer, no-right-answer, both-answer}
 use Rattle.derive_slots.proofs.answer_slot.Tie as tie
 use Rattle.derive_slots.proofs.answer_slot.Statement.{statement}
@@ -30,8 +30,8 @@ sub-right c = search rules
 returns-3 : tie.Need-returns-3
 returns-3 c = (
   both-answer c.before.before.before.wide.result c.before.before.wide2.result c.before.if1.false c.if2.false ∙ ap
-      (λ (z : ℕ). answerSlot (answer_of z) (answer_of c.before.before.wide2.result)) c.before.before.before.wide.ensures.0
-      ∙ ap (λ (z : ℕ). answerSlot (answer_of c.before.before.before.before.args.x) (answer_of z)) c.before.before.wide2.ensures.0,
+      (λ (z : ℕ). answer_slot (answer_of z) (answer_of c.before.before.wide2.result)) c.before.before.before.wide.ensures.0
+      ∙ ap (λ (z : ℕ). answer_slot (answer_of c.before.before.before.before.args.x) (answer_of z)) c.before.before.wide2.ensures.0,
   (omega (arith, c.before.before.before.wide.ensures.1), omega (arith, c.before.before.wide2.ensures.1)),
 )
 

@@ -3,7 +3,7 @@ use mathlib.Core.Path.{sym, ap, ◌∙◌}
 use borrow.Author.Tests.{not-true, not-false}
 use Rattle.spec_model.specs.Table.{State}
 use Rattle.spec_model.specs.Check.{state_of}
-use Rattle.derive_slots.specs.Slots.{keptState}
+use Rattle.derive_slots.specs.Slots.{kept_state}
 use Rattle.derive_slots.proofs.Laws.{kept-not, kept-both, kept-lost}
 use borrow.Author.Rules.{rules}
 use Rattle.derive_slots.proofs.kept_state.Statement.{statement}
@@ -18,7 +18,7 @@ permits-requires c κs = search rules
 returns : tie.Need-returns
 returns c = let a = c.before.before.before.args in let o = c.before.before.state-code in (
   kept-not (state_of o.result) (state_of a.other) (state_of a.lost) (sym c.before.permits.ensures ∙ not-true c.before.permits.result c.if1.true)
-      ∙ ap (λ (z : State). keptState z (state_of a.other) (state_of a.lost)) o.ensures.0,
+      ∙ ap (λ (z : State). kept_state z (state_of a.other) (state_of a.lost)) o.ensures.0,
   o.ensures.1,
 )
 
@@ -30,7 +30,7 @@ returns-2 c = let a = c.before.before.before.before.before.args in let o = c.bef
   kept-both (state_of o.result) (state_of a.other) (state_of a.lost)
       (sym c.before.before.before.permits.ensures ∙ not-false c.before.before.before.permits.result c.before.before.if1.false)
       (sym c.before.permits2.ensures ∙ c.if2.true)
-      ∙ ap (λ (z : State). keptState z (state_of a.other) (state_of a.lost)) o.ensures.0,
+      ∙ ap (λ (z : State). kept_state z (state_of a.other) (state_of a.lost)) o.ensures.0,
   o.ensures.1,
 )
 
@@ -39,7 +39,7 @@ returns-3 c = let a = c.before.before.before.before.before.args in let o = c.bef
   kept-lost (state_of o.result) (state_of a.other) (state_of a.lost)
       (sym c.before.before.before.permits.ensures ∙ not-false c.before.before.before.permits.result c.before.before.if1.false)
       (sym c.before.permits2.ensures ∙ c.if2.false)
-      ∙ ap (λ (z : State). keptState z (state_of a.other) (state_of a.lost)) o.ensures.0,
+      ∙ ap (λ (z : State). kept_state z (state_of a.other) (state_of a.lost)) o.ensures.0,
   c.before.before.before.before.before.requires,
 )
 

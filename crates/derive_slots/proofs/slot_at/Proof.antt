@@ -2,9 +2,9 @@
 use mathlib.Core.Path.{ap, ◌∙◌}
 use Prim.Native.Nat.{◌/◌, ◌%◌}
 use Rattle.spec_model.specs.Table.{Method}
-use Rattle.spec_model.specs.Check.{kind_of, methodOf}
-use Rattle.table_record.specs.Store.{rawMethod}
-use Rattle.derive_slots.specs.Slots.{slot_of, methodAt, methodSlots}
+use Rattle.spec_model.specs.Check.{kind_of, method_of}
+use Rattle.table_record.specs.Store.{raw_method}
+use Rattle.derive_slots.specs.Slots.{slot_of, method_at, method_slots}
 use borrow.Author.Rules.{rules}
 use Rattle.derive_slots.proofs.slot_at.Statement.{statement}
 use Rattle.derive_slots.proofs.slot_at.Tie as tie
@@ -20,8 +20,8 @@ slot-of-requires c κs = search rules
 
 returns : tie.Need-returns
 returns c = let a = c.before.before.before.args in let d = kind_of a.key.kind in (
-  c.slot-of.ensures.0 ∙ ap (λ (m : Method). slot_of d m (methodOf (rawMethod c.before.get-method2.result)) (a.k % methodSlots)) (ap methodOf c.before.before.get-method.ensures)
-      ∙ ap (λ (m : Method). slot_of d (methodAt a.b.now a.key.left (a.k / methodSlots)) m (a.k % methodSlots)) (ap methodOf c.before.get-method2.ensures),
+  c.slot-of.ensures.0 ∙ ap (λ (m : Method). slot_of d m (method_of (raw_method c.before.get-method2.result)) (a.k % method_slots)) (ap method_of c.before.before.get-method.ensures)
+      ∙ ap (λ (m : Method). slot_of d (method_at a.b.now a.key.left (a.k / method_slots)) m (a.k % method_slots)) (ap method_of c.before.get-method2.ensures),
   c.slot-of.ensures.1,
 )
 

@@ -5,7 +5,7 @@ use borrow.Author.Tests.{not-true, not-false}
 use borrow.Author.Rules.{rules}
 use Rattle.spec_model.specs.Table.{permit}
 use Rattle.spec_model.specs.Check.{kind_of}
-use Rattle.table_record.specs.Store.{rawMethod}
+use Rattle.table_record.specs.Store.{raw_method}
 use Rattle.derive_slots.proofs.Laws.{slot-off, slot-answer, slot-argument}
 use Rattle.derive_slots.proofs.slot_of.Tie as tie
 use Rattle.derive_slots.proofs.slot_of.Statement.{statement}
@@ -18,7 +18,7 @@ permits-requires c κs = search rules
 
 returns : tie.Need-returns
 returns c = let a = c.before.before.before.args in (
-  slot-off (kind_of a.kind) (rawMethod a.p) (rawMethod a.q) a.i
+  slot-off (kind_of a.kind) (raw_method a.p) (raw_method a.q) a.i
       (sym (ap permit c.before.before.state-of.ensures.0) ∙ sym c.before.permits.ensures ∙ not-true c.before.permits.result c.if1.true),
   tt,
 )
@@ -28,7 +28,7 @@ answer-slot-requires c κs = search rules
 
 returns-2 : tie.Need-returns-2
 returns-2 c = let a = c.before.before.before.before.before.args in (
-  c.answer-slot.ensures.0 ∙ slot-answer (kind_of a.kind) (rawMethod a.p) (rawMethod a.q)
+  c.answer-slot.ensures.0 ∙ slot-answer (kind_of a.kind) (raw_method a.p) (raw_method a.q)
       (sym (ap permit c.before.before.before.before.state-of.ensures.0) ∙ sym c.before.before.before.permits.ensures ∙ not-false
       c.before.before.before.permits.result c.before.before.if1.false) a.i c.before.if2.true,
   c.answer-slot.ensures.1,
@@ -39,7 +39,7 @@ argument-slot-requires c κs = omega (arith, c.before.before.before.before.requi
 
 returns-3 : tie.Need-returns-3
 returns-3 c = let a = c.before.before.before.before.before.args in (
-  c.argument-slot.ensures.0 ∙ slot-argument (kind_of a.kind) (rawMethod a.p) (rawMethod a.q)
+  c.argument-slot.ensures.0 ∙ slot-argument (kind_of a.kind) (raw_method a.p) (raw_method a.q)
       (sym (ap permit c.before.before.before.before.state-of.ensures.0) ∙ sym c.before.before.before.permits.ensures ∙ not-false
       c.before.before.before.permits.result c.before.before.if1.false) a.i
       (omega (arith, c.before.before.before.before.before.requires.1, c.before.if2.false)),

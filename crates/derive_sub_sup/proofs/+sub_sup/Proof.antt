@@ -6,10 +6,10 @@ use native.Mathlib.Omega.{arith}
 use borrow.Author.Rules.{rules}
 use borrow.Fn.Kinds.{In}
 use borrow.Fn.PlainCycle.{Measures, is, falls, and}
-use Rattle.spec_model.specs.Table.{sub, sup, maxTypes}
+use Rattle.spec_model.specs.Table.{sub, sup, max_types}
 use Rattle.base_numbers.proofs.narrow.Reads as narrow-reads
 use Rattle.derive_slots.proofs.slot_at.Reads as slot-at-reads
-use Rattle.derive_slots.specs.Slots.{methodSlots}
+use Rattle.derive_slots.specs.Slots.{method_slots}
 use Rattle.derive_sub_sup.proofs.Ends.{Started, started, settled, new-ready, start_loop, slot-ready, slot_read, finish-ready, new-full, new-at}
 use Rattle.derive_sub_sup.proofs.Turns.{Loop, Turn, turn-empty, argument-ready, argument-full, argument-low, argument-turn, answer-ready, answer-full, answer-low, answer-turn}
 use Rattle.derive_sub_sup.proofs.sub.Reads as sub-reads
@@ -25,10 +25,10 @@ use Rattle.derive_sub_sup.proofs.+sub_sup.{statement}
 use Rattle.derive_sub_sup.proofs.+sub_sup.Tie.{close}
 
 abbrev μ-sub : Measures 1 sub-kinds.ps ℕ
-μ-sub κs a = maxTypes - a.1.1.0
+μ-sub κs a = max_types - a.1.1.0
 
 abbrev μ-sup : Measures 1 sup-kinds.ps ℕ
-μ-sup κs a = maxTypes - a.1.1.0
+μ-sup κs a = max_types - a.1.1.0
 
 abbrev sub_at : ℕ → In 1 sub-kinds.ps
 sub_at t = and 1 sub-kinds.ps (is 1 sub-kinds.ps μ-sub t) sub-reads.Pre
@@ -75,7 +75,7 @@ sub-started t c = started c.before.before.before.before.before.before.requires.1
 -- the slot as it is read from the bytes
 sub-turn : (t : ℕ) (c : sub-lts.After-slot-at (sub-calls t) (sub_at t) sub-reads.Post sub-Inv-loop sub-μ-loop)
     → let a = c.before.before.before.before.before.before.before.before.before.before.before.args in let st = c.before.before.before.before.before.start in
-    let l = c.before.before.before.loop in Turn sub a.c a.n st.result st.new.0 l.b (a.c.methods * methodSlots) l.bytes l.m l.k c.slot_at.result
+    let l = c.before.before.before.loop in Turn sub a.c a.n st.result st.new.0 l.b (a.c.methods * method_slots) l.bytes l.m l.k c.slot_at.result
 sub-turn t c = record {
   now = c.before.before.before.loop.invariant;
   test = c.before.before.loop-test.true;
@@ -266,7 +266,7 @@ sup-started t c = started c.before.before.before.before.before.before.requires.1
 -- the slot as it is read from the bytes
 sup-turn : (t : ℕ) (c : sup-lts.After-slot-at (sup-calls t) (sup-at t) sup-reads.Post sup-Inv-loop sup-μ-loop)
     → let a = c.before.before.before.before.before.before.before.before.before.before.before.args in let st = c.before.before.before.before.before.start in
-    let l = c.before.before.before.loop in Turn sup a.c a.n st.result st.new.0 l.b (a.c.methods * methodSlots) l.bytes l.m l.k c.slot_at.result
+    let l = c.before.before.before.loop in Turn sup a.c a.n st.result st.new.0 l.b (a.c.methods * method_slots) l.bytes l.m l.k c.slot_at.result
 sup-turn t c = record {
   now = c.before.before.before.loop.invariant;
   test = c.before.before.loop-test.true;

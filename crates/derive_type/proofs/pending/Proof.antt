@@ -3,8 +3,8 @@ use mathlib.Core.Path.{ap, ◌∙◌}
 use mathlib.Core.List.{List, map}
 use Rattle.table_record.specs.declared.Method.{Method}
 use Rattle.table_record.specs.declared.TypeRec.{TypeRec}
-use Rattle.table_record.specs.Store.{rawMethod}
-use Rattle.derive_type.specs.NewType.{newRecord}
+use Rattle.table_record.specs.Store.{raw_method}
+use Rattle.derive_type.specs.NewType.{new_record}
 use borrow.Author.Rules.{rules}
 use Rattle.derive_type.proofs.pending.Statement.{statement}
 use Rattle.derive_type.proofs.pending.Tie as tie
@@ -16,7 +16,7 @@ new-type-requires : tie.Need-new-type-requires
 new-type-requires c κs = search rules
 
 returns : tie.Need-returns
-returns c = c.new-type.ensures.0 ∙ ap (λ (ms : List Method). newRecord c.before.before.before.args.w (map rawMethod ms))
+returns c = c.new-type.ensures.0 ∙ ap (λ (ms : List Method). new_record c.before.before.before.args.w (map raw_method ms))
     (c.new-type.ensures.1 ∙ ap (λ (z : TypeRec). z.methods) c.before.before.empty.ensures)
 
 pub pending-spec : {M : Type 1} → statement M

@@ -4,7 +4,7 @@ use Prim.Native.Nat.{◌≤◌, ◌-◌, ◌+◌}
 use native.Mathlib.Omega.{arith}
 use lib.ListN.{length}
 use borrow.Author.Rules.{rules}
-use Rattle.spec_doors.specs.Held.{pairsOf}
+use Rattle.spec_doors.specs.Held.{pairs_of}
 use Rattle.spec_doors.proofs.Pass.{left}
 use Rattle.spec_doors.proofs.Rising.{none-late}
 use Rattle.doors_hold.proofs.Laws.{before-all, marks-over, arrivals-over, next-mark, next-arrival, next-pair}
@@ -12,7 +12,7 @@ use Rattle.doors_hold.proofs.count_pairs.Statement.{statement}
 use Rattle.doors_hold.proofs.count_pairs.Tie as tie
 
 abbrev invariant-loop : tie.invariant-loop
-invariant-loop marks arrivals within i₀ j₀ n₀ i j n = (i ≤ length marks) × (j ≤ length arrivals) × (n ≤ i) × (pairsOf within marks arrivals ≡ n + left within marks arrivals i j)
+invariant-loop marks arrivals within i₀ j₀ n₀ i j n = (i ≤ length marks) × (j ≤ length arrivals) × (n ≤ i) × (pairs_of within marks arrivals ≡ n + left within marks arrivals i j)
 
 abbrev decreases-loop : tie.decreases-loop
 decreases-loop marks arrivals within i₀ j₀ n₀ i j n = (length marks - i) + (length arrivals - j)

@@ -4,12 +4,12 @@ use native.Mathlib.Omega.{arith}
 use borrow.Author.Rules.{rules}
 use Rattle.spec_doors.proofs.Rising.{fit-rising}
 use Rattle.spec_doors.proofs.Pass.{few-pairs}
-use Rattle.doors_hold.proofs.Laws.{refuses, accepts, too_wide, marks-unfit, arrivals-unfit, all-counted}
+use Rattle.doors_hold.proofs.Laws.{refuses, accepts, too-wide, marks-unfit, arrivals-unfit, all-counted}
 use Rattle.doors_hold.proofs.hold.Statement.{statement}
 use Rattle.doors_hold.proofs.hold.Tie as tie
 
 returns : tie.Need-returns
-returns c = let a = c.before.before.before.args in too_wide a.marks.now a.arrivals.now a.within c.if1.true
+returns c = let a = c.before.before.before.args in too-wide a.marks.now a.arrivals.now a.within c.if1.true
 
 times-fit-requires : tie.Need-times-fit-requires
 times-fit-requires c κs = search rules

@@ -6,7 +6,7 @@ use native.Mathlib.Omega.{arith}
 use lib.ListN.{length, drop}
 use borrow.Author.Rules.{rules}
 use Rattle.spec_doors.specs.Times.{rising}
-use Rattle.doors_hold.proofs.Laws.{rises, falls, too-late, none_left, too_many, as-rising}
+use Rattle.doors_hold.proofs.Laws.{rises, falls, too-late, none_left, too-many, as-rising}
 use Rattle.doors_hold.proofs.times_fit.Statement.{statement}
 use Rattle.doors_hold.proofs.times_fit.Tie as tie
 
@@ -17,7 +17,7 @@ abbrev decreases-loop : tie.decreases-loop
 decreases-loop xs low₀ k₀ low k = length xs - k
 
 returns : tie.Need-returns invariant-loop decreases-loop
-returns c = too_many c.before.args.xs.now c.if1.true
+returns c = too-many c.before.args.xs.now c.if1.true
 
 loop-holds : tie.Need-loop-init invariant-loop decreases-loop
 loop-holds c = (omega arith, refl)

@@ -1,7 +1,7 @@
 -- The unpaired ones stand in the rest behind the pairs (`line-rest`).
 use native.Mathlib.Omega.{arith}
 use borrow.Author.Rules.{rules}
-use Rattle.spec_doors.specs.Output.{heldText}
+use Rattle.spec_doors.specs.Output.{held_text}
 use Rattle.text_write.proofs.Laws.{line-rest}
 use Rattle.doors_output.proofs.write_counts.Statement.{statement}
 use Rattle.doors_output.proofs.write_counts.Tie as tie
@@ -34,7 +34,7 @@ same_length : tie.Need-same-length
 same_length c = search rules
 
 returns : tie.Need-returns
-unfolding heldText
+unfolding held_text
 returns c =
     let n = c.before.before.before.before.before.before.before.put-number.ensures in
     let w = c.before.before.write-unpaired.ensures in (line-rest n.0 c.before.before.before.before.least.ensures.0 w.0, omega (arith, n.1, w.1))

@@ -3,7 +3,7 @@ use mathlib.Core.Path.{ap, sym}
 use mathlib.Core.List.{[], ◌∷◌}
 use native.Mathlib.Omega.{arith}
 use borrow.Author.Rules.{rules}
-use Rattle.spec_doors.specs.Output.{heldText}
+use Rattle.spec_doors.specs.Output.{held_text}
 use Rattle.doors_hold.specs.Result.{held_of}
 use Rattle.text_write.proofs.Laws.{lines_are}
 use Rattle.doors_output.proofs.write_held.Statement.{statement}
@@ -28,11 +28,11 @@ same_length : tie.Need-same-length
 same_length c = search rules
 
 returns : tie.Need-returns
-unfolding heldText
+unfolding held_text
 returns c =
     let w = c.before.before.write-number.ensures in
     let e = c.before.before.before.before.before.before.h.given.1 in
-    (lines_are (ap (λ h. heldText (held_of h) ∷ []) (sym e)) w.0, omega (arith, w.1))
+    (lines_are (ap (λ h. held_text (held_of h) ∷ []) (sym e)) w.0, omega (arith, w.1))
 
 same-length-2 : tie.Need-same-length-2
 same-length-2 c = search rules
@@ -41,7 +41,7 @@ returns-2 : tie.Need-returns-2
 returns-2 c =
     let w = c.before.before.write-counts.ensures in
     let e = c.before.before.before.before.before.h2.given.1 in
-    (lines_are (ap (λ h. heldText (held_of h) ∷ []) (sym e)) w.0, w.1)
+    (lines_are (ap (λ h. held_text (held_of h) ∷ []) (sym e)) w.0, w.1)
 
 pub write-held-spec : {M : Type 1} → statement M
 write-held-spec =

@@ -6,16 +6,16 @@ use lib.ListN.{drop}
 use native.Mathlib.Omega.{arith}
 use borrow.Author.Rules.{rules}
 use Rattle.spec_sheet.specs.Lines.{Row, split, Reading}
-use Rattle.spec_doors.specs.Input.{Input, inputLines}
+use Rattle.spec_doors.specs.Input.{Input, input_lines}
 use Rattle.text_cursor.specs.declared.Cursor.{Cursor}
 use Rattle.doors_read.specs.View.{Gives}
-use Rattle.doors_read.proofs.Input.{behindArrivals, behindMarks, behindTolerance, no-tolerance, tolerance, no-times, times, more_left, all_read}
+use Rattle.doors_read.proofs.Input.{behind_arrivals, behind_marks, behind_tolerance, no-tolerance, tolerance, no-times, times, more_left, all_read}
 use Rattle.doors_read.proofs.read_input.Statement.{statement}
 use Rattle.doors_read.proofs.read_input.Tie as tie
 
 -- what the bytes that are handed in are read as, and their rows from a cursor on
 abbrev reading : tie.Start → Reading Input
-reading c = inputLines 0 (split c.args.s.now)
+reading c = input_lines 0 (split c.args.s.now)
 
 abbrev rows : tie.Start → Cursor → List Row
 rows c d = split (drop d.at c.args.s.now)
@@ -30,7 +30,7 @@ within c = c.before.g.given.0.0
 abbrev to-marks : tie.After-known-told → Cursor
 to-marks c = c.before.g.given.0.1.0
 
-tolerance-read : (c : tie.After-known-told) → reading (start c) ≡ behindTolerance (within c) (to-marks c).at (rows (start c) (to-marks c))
+tolerance-read : (c : tie.After-known-told) → reading (start c) ≡ behind_tolerance (within c) (to-marks c).at (rows (start c) (to-marks c))
 tolerance-read c =
     let n = c.before.before.before.next-number in
     let o = c.before.before.before.before.before.start in
@@ -44,12 +44,12 @@ abbrev to-arrivals : tie.After-known-told2 → Cursor
 to-arrivals c = c.before.x.given.0.1.0
 
 marks-read : (c : tie.After-known-told2)
-    → let b = first c in Gives (reading (start b)) (λ ms. behindMarks (within b) ms (to-arrivals c).at (rows (start b) (to-arrivals c)))
+    → let b = first c in Gives (reading (start b)) (λ ms. behind_marks (within b) ms (to-arrivals c).at (rows (start b) (to-arrivals c)))
     c.before.before.before.next-times.new.1.1.0 c.before.x.given.0.0
 marks-read c =
     let b = first c in
     let t = c.before.before.before.next-times in
-    times (reading (start b)) (start b).args.s.now (to-marks b).at (behindMarks (within b)) (tolerance-read b) _ t.result t.ensures.0 _ _ c.before.x.given.1
+    times (reading (start b)) (start b).args.s.now (to-marks b).at (behind_marks (within b)) (tolerance-read b) _ t.result t.ensures.0 _ _ c.before.x.given.1
 
 -- behind the arrivals
 abbrev second : tie.After-known-told3 → tie.After-known-told2
@@ -60,13 +60,13 @@ to_end c = c.before.y.given.0.1.0
 
 arrivals-read : (c : tie.After-known-told3)
     → let a = second c in let b = first a in
-    Gives (reading (start b)) (λ xs. behindArrivals (within b) (marks-read a).times xs (to_end c).at (rows (start b) (to_end c)))
+    Gives (reading (start b)) (λ xs. behind_arrivals (within b) (marks-read a).times xs (to_end c).at (rows (start b) (to_end c)))
     c.before.before.before.next-times2.new.1.1.0 c.before.y.given.0.0
 arrivals-read c =
     let a = second c in
     let b = first a in
     let t = c.before.before.before.next-times2 in
-    times (reading (start b)) (start b).args.s.now (to-arrivals a).at (behindArrivals (within b) (marks-read a).times) (marks-read a).is _ t.result t.ensures.0
+    times (reading (start b)) (start b).args.s.now (to-arrivals a).at (behind_arrivals (within b) (marks-read a).times) (marks-read a).is _ t.result t.ensures.0
     _ _ c.before.y.given.1
 
 start-requires : tie.Need-start-requires
@@ -104,7 +104,7 @@ returns-2 : tie.Need-returns-2
 returns-2 c =
     let t = c.before.before.next-times in
     let b = c.before.before.before.before in (
-      no-times (reading (start b)) (start b).args.s.now (to-marks b).at (behindMarks (within b)) (tolerance-read b) _ t.result t.ensures.0 c.enum-told2.given.1,
+      no-times (reading (start b)) (start b).args.s.now (to-marks b).at (behind_marks (within b)) (tolerance-read b) _ t.result t.ensures.0 c.enum-told2.given.1,
       (t.ensures.1, (start b).requires.1),
     )
 
@@ -122,7 +122,7 @@ returns-3 c =
     let t = c.before.before.next-times2 in
     let a = c.before.before.before.before in
     let b = first a in (
-      no-times (reading (start b)) (start b).args.s.now (to-arrivals a).at (behindArrivals (within b) (marks-read a).times) (marks-read a).is _ t.result t.ensures.0
+      no-times (reading (start b)) (start b).args.s.now (to-arrivals a).at (behind_arrivals (within b) (marks-read a).times) (marks-read a).is _ t.result t.ensures.0
           c.enum-told3.given.1,
       (a.before.before.before.next-times.ensures.1, t.ensures.1),
     )

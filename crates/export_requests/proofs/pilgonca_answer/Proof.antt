@@ -4,7 +4,7 @@ use lib.Seq.{length-take-le}
 use mir.Facts.{to_z-of_z}
 use borrow.Author.Rules.{rules}
 use Rattle.spec_model.specs.Requests.{answer}
-use Rattle.request_operands.specs.Given.{givenIn}
+use Rattle.request_operands.specs.Given.{given_in}
 use Rattle.request_operands.proofs.Listing.{answer-few, answer-is}
 use Rattle.export_requests.proofs.pilgonca_answer.Statement.{statement}
 use Rattle.export_requests.proofs.pilgonca_answer.Tie as tie
@@ -29,7 +29,7 @@ returns c =
     let a = c.before.before.before.before.before.before.before.before.before.args in
     let f = c.before.before.before.before.before.before.before.before.before.ranges in
     let n = c.before.before.before.before.before.before.before.before.answer-count in
-    c.serve-bytes.ensures (answer a.subject a.call (givenIn a.given a.value))
+    c.serve-bytes.ensures (answer a.subject a.call (given_in a.given a.value))
     (rw (to_z-of_z f.subject, to_z-of_z f.call, to_z-of_z f.value) (answer-is a.given n.result n.ensures a.subject a.call a.value))
 
 pub pilgonca-answer-spec : {M : Type 1} → statement M

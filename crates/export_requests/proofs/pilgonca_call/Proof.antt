@@ -5,7 +5,7 @@ use mir.Facts.{to_z-of_z}
 use lib.ListN.{take}
 use lib.Seq.{length-take-le}
 use borrow.Author.Rules.{rules}
-use Rattle.spec_model.specs.Table.{maxArguments}
+use Rattle.spec_model.specs.Table.{max_arguments}
 use Rattle.spec_model.specs.Requests.{call}
 use Rattle.request_operands.proofs.Listing.{call-is}
 use Rattle.export_requests.proofs.Cut.{handed-cut}
@@ -33,7 +33,7 @@ returns c =
     let o = c.before.before.before.before.before.before.before.before.before.call-operands in
     let is = rw (to_z-of_z f.subject, to_z-of_z f.cell, to_z-of_z f.method) at o.ensures.is in
     handed-cut a.subject a.cell a.method a.arguments.now _ _ _
-    (c.serve-bytes.ensures (call a.subject a.cell a.method (take (suc maxArguments) a.arguments.now)) (call-is a.subject a.cell a.method a.arguments.now _ is))
+    (c.serve-bytes.ensures (call a.subject a.cell a.method (take (suc max_arguments) a.arguments.now)) (call-is a.subject a.cell a.method a.arguments.now _ is))
 
 pub pilgonca-call-spec : {M : Type 1} → statement M
 pilgonca-call-spec =

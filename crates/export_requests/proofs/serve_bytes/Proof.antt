@@ -3,7 +3,7 @@ use mathlib.Core.Path.{refl, subst}
 use mathlib.Core.Option.{Option}
 use borrow.Author.Rules.{rules}
 use Rattle.spec_model.specs.Requests.{Request}
-use Rattle.spec_model.specs.Coded.{byCode}
+use Rattle.spec_model.specs.Coded.{by_code}
 use Rattle.state_record.specs.Whole.{whole}
 use Rattle.request_common.specs.Served.{done}
 use Rattle.request_serve.specs.Serves.{ServesAsked}
@@ -37,7 +37,7 @@ hand-back-requires c κs =
     let a = c.before.before.before.before.before.before.before.before.before.before.before.before.before.before.before.before.before.before.args in
     let s = c.before.before.before.before.before.before.before.state-from in
     let r = c.before.before.before.before.before.serve in
-    asked-small (whole a.types.now s.result) (byCode a.code a.ops.now) (done r.new.0 r.result) r.ensures
+    asked-small (whole a.types.now s.result) (by_code a.code a.ops.now) (done r.new.0 r.result) r.ensures
 
 returns-2 : tie.Need-returns-2
 returns-2 c q e =

@@ -1,11 +1,11 @@
 -- All 0.
-use Rattle.export_runs.specs.Results.{noBytes}
+use Rattle.export_runs.specs.Results.{no_bytes}
 use borrow.Author.Rules.{rules}
 use Rattle.export_runs.proofs.clear.Statement.{statement}
 use Rattle.export_runs.proofs.clear.Tie as tie
 
 returns : tie.Need-returns
-unfolding noBytes
+unfolding no_bytes
 returns c = search rules
 
 pub clear_spec : {M : Type 1} → statement M

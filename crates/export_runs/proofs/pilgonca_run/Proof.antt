@@ -1,9 +1,9 @@
 -- The C function gives back what `request_run::run` leaves of the state that the bytes mean (proofs/Running); on 2 every array is as it was.
 use mathlib.Core.Path.{refl, subst}
 use Rattle.table_check_links.proofs.Steps.{refused, passed}
-use Rattle.state_record.specs.View.{rawState}
+use Rattle.state_record.specs.View.{raw_state}
 use Rattle.state_bytes.specs.Flat.{flat}
-use Rattle.request_run.specs.Requested.{runHanded}
+use Rattle.request_run.specs.Requested.{run_handed}
 use Rattle.request_run.specs.Ran.{room, over, Runs}
 use Rattle.export_runs.proofs.Running.{run-unfit, run-refused, run-taken}
 use borrow.Author.Rules.{rules}
@@ -39,7 +39,7 @@ returns-2 c =
     let a = c.before.before.before.before.before.before.before.before.before.before.before.before.before.before.before.before.before.args in
     let f = flat a.types.now a.links.now a.cells.now a.places.now a.calls.now a.counts.now in
     let r = c.before.before.before.run in
-    let w = subst (λ s. Runs s a.answers.now r.new.1.1.1.0 (runHanded (rawState s) (room a.answers.now) a.words.now) (over r.new.0 r.result))
+    let w = subst (λ s. Runs s a.answers.now r.new.1.1.1.0 (run_handed (raw_state s) (room a.answers.now) a.words.now) (over r.new.0 r.result))
     (c.before.before.before.before.before.before.state-from.ensures a.types.now) r.ensures in
     run-refused f (room a.answers.now) a.words.now
     (passed _ _ c.before.before.before.before.before.before.before.before.before.before.before.before.codes-fit.ensures
@@ -58,7 +58,7 @@ returns-3 c =
     let a = c12.before.before.before.before.before.before.before.before.before.before.before.args in
     let f = flat a.types.now a.links.now a.cells.now a.places.now a.calls.now a.counts.now in
     let r = c.before.before.before.before.before.before.before.before.before.run in
-    let w = subst (λ s. Runs s a.answers.now r.new.1.1.1.0 (runHanded (rawState s) (room a.answers.now) a.words.now) (over r.new.0 r.result))
+    let w = subst (λ s. Runs s a.answers.now r.new.1.1.1.0 (run_handed (raw_state s) (room a.answers.now) a.words.now) (over r.new.0 r.result))
     (c12.state-from.ensures a.types.now) r.ensures in
     run-taken f (room a.answers.now) a.words.now
     (passed _ _ c12.before.before.before.before.before.before.codes-fit.ensures

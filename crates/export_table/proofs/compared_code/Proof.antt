@@ -1,7 +1,7 @@
 -- Each case of the answer by its definition.
 use mathlib.Core.Path.{ap, sym, ◌∙◌}
-use Rattle.relation_compare.specs.Compared.{comparedOf}
-use Rattle.export_table.specs.Codes.{comparedCode}
+use Rattle.relation_compare.specs.Compared.{compared_of}
+use Rattle.export_table.specs.Codes.{compared_code}
 use borrow.Author.Rules.{rules}
 use Rattle.export_table.proofs.compared_code.Statement.{statement}
 use Rattle.export_table.proofs.compared_code.Tie as tie
@@ -25,7 +25,7 @@ returns-2 : tie.Need-returns-2
 returns-2 c = search rules
 
 returns-3 : tie.Need-returns-3
-returns-3 c = c.comparison-code.ensures ∙ sym (ap (λ x. comparedCode (comparedOf x)) c.before.before.r.given.1)
+returns-3 c = c.comparison-code.ensures ∙ sym (ap (λ x. compared_code (compared_of x)) c.before.before.r.given.1)
 
 pub compared-code-spec : {M : Type 1} → statement M
 compared-code-spec =

@@ -2,7 +2,7 @@
 use mathlib.Core.Path.{ap, ◌∙◌}
 use mir.Facts.{to_z-of_z}
 use borrow.Author.Rules.{rules}
-use Rattle.export_table.specs.Codes.{comparedCode}
+use Rattle.export_table.specs.Codes.{compared_code}
 use Rattle.export_table.proofs.pilgonca_compare.Statement.{statement}
 use Rattle.export_table.proofs.pilgonca_compare.Tie as tie
 
@@ -18,7 +18,7 @@ compared-code-requires c κs = search rules
 returns : tie.Need-returns
 returns c =
     let f = c.before.before.before.before.ranges in
-    c.compared-code.ensures ∙ ap comparedCode (rw (to_z-of_z f.t, to_z-of_z f.s, c.before.before.Counts-of.ensures) at c.before.compare-types.ensures)
+    c.compared-code.ensures ∙ ap compared_code (rw (to_z-of_z f.t, to_z-of_z f.s, c.before.before.Counts-of.ensures) at c.before.compare-types.ensures)
 
 pub pilgonca-compare-spec : {M : Type 1} → statement M
 pilgonca-compare-spec = tie.close (tie.spec counts-of-requires compare-types-requires compared-code-requires returns)

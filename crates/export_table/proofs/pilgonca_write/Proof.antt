@@ -1,7 +1,7 @@
 -- The C function gives the writer's number and length and leaves the writer's buffer, which are the definition's.
 use mathlib.Core.Path.{ap, ◌∙◌}
 use borrow.Author.Rules.{rules}
-use Rattle.table_record.specs.Store.{rawTable}
+use Rattle.table_record.specs.Store.{raw_table}
 use Rattle.spec_sheet.specs.Text.{write}
 use Rattle.text_write.proofs.Written.{written_is}
 use Rattle.export_table.proofs.pilgonca_write.Statement.{statement}
@@ -23,7 +23,7 @@ returns : tie.Need-returns
 returns c =
     let a = c.before.before.before.before.before.before.before.before.before.args in
     written_is _ _
-    (c.before.before.before.before.write-sheet.ensures ∙ ap (λ z. write (rawTable a.types.now a.links.now z) a.buffer.now)
+    (c.before.before.before.before.write-sheet.ensures ∙ ap (λ z. write (raw_table a.types.now a.links.now z) a.buffer.now)
     c.before.before.before.before.before.before.Counts-of.ensures) c.wrote-code.ensures.0 c.wrote-code.ensures.1
 
 pub pilgonca-write-spec : {M : Type 1} → statement M

@@ -1,7 +1,7 @@
 -- The output by the three cases of an input, too long, refused or accepted, as the definition has them (proofs/Whole).
 use mathlib.Core.Path.{ap, ◌∙◌}
 use Rattle.spec_sheet.specs.Lines.{join}
-use Rattle.pairs_write_lines.specs.Parts.{codeLines}
+use Rattle.pairs_write_lines.specs.Parts.{code_lines}
 use Rattle.pairs_output.proofs.Whole.{sheet-checked, sheet-few, accepted-prints, refused-prints, long-prints}
 use Rattle.text_write.proofs.Laws.{fill_is}
 use native.Mathlib.Omega.{arith}
@@ -60,7 +60,7 @@ returns-3 : tie.Need-returns-3
 returns-3 c =
     let n = c.before.before.before.before.before.before.before.before.before.before.before.before.read.result.counts.sheet in (
       fill_is
-          (ap (λ z. join (codeLines z n n)) c.before.before.before.before.before.pair-table.ensures
+          (ap (λ z. join (code_lines z n n)) c.before.before.before.before.before.pair-table.ensures
           ∙ accepted-prints c.before.before.before.before.before.before.before.before.before.before.before.before.before.before.before.before.args.s.now
           c.before.before.before.before.before.before.before.before.before.before.before.before.read.result
           c.before.before.before.before.before.before.before.before.before.before.before.before.read.ensures

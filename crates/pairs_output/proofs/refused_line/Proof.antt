@@ -1,5 +1,5 @@
 -- A refusal's line: the number, and the offset in the rest of the buffer (`line-rest`).
-use Rattle.pairs_output.specs.Output.{resultLines}
+use Rattle.pairs_output.specs.Output.{result_lines}
 use Rattle.text_write.proofs.Laws.{line-rest}
 use native.Mathlib.Omega.{arith}
 use borrow.Author.Rules.{rules}
@@ -37,7 +37,7 @@ same_length : tie.Need-same-length
 same_length c = search rules
 
 returns : tie.Need-returns
-unfolding resultLines
+unfolding result_lines
 returns c =
     let n = c.before.before.before.before.before.before.before.before.put-number.ensures in
     let w = c.before.before.write-number.ensures in

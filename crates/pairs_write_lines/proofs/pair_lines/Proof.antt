@@ -1,6 +1,6 @@
 -- The loop has written the pairs of the first t types, and those of one more go into the rest of the buffer (`lines_rest`, `rows_next`).
 use Rattle.pairs_write_lines.proofs.Laws.{rows_none, rows_next, rows_all}
-use Rattle.pairs_write_lines.specs.Parts.{codeLines}
+use Rattle.pairs_write_lines.specs.Parts.{code_lines}
 use Rattle.text_write.proofs.Laws.{lines_none, lines_rest, lines_are}
 use Rattle.text_write.specs.Fill.{Lined}
 use Prim.Native.Nat.{◌-◌, ◌*◌, ◌≤◌}
@@ -10,7 +10,7 @@ use Rattle.pairs_write_lines.proofs.pair_lines.Statement.{statement}
 use Rattle.pairs_write_lines.proofs.pair_lines.Tie as tie
 
 abbrev invariant-loop : tie.invariant-loop
-invariant-loop buf₀ pairs n at₀ t₀ buf at t = (t ≤ n) × (at ≤ 672 * t) × Lined buf₀ buf (codeLines pairs n t) at
+invariant-loop buf₀ pairs n at₀ t₀ buf at t = (t ≤ n) × (at ≤ 672 * t) × Lined buf₀ buf (code_lines pairs n t) at
 
 abbrev decreases-loop : tie.decreases-loop
 decreases-loop buf₀ pairs n at₀ t₀ buf at t = n - t

@@ -4,25 +4,25 @@ use lib.ListN.{length}
 use borrow.Author.Rules.{rules}
 use borrow.Author.Tests.{not-true, not-false}
 use Rattle.spec_model.specs.Check.{RawMethod}
-use Rattle.spec_model.specs.Records.{argumentSlots}
-use Rattle.table_record.specs.Store.{rawIn}
+use Rattle.spec_model.specs.Records.{argument_slots}
+use Rattle.table_record.specs.Store.{raw_in}
 use Rattle.table_record.proofs.Laws.{slots_length}
-use Rattle.relation_states.specs.Asked.{relationOf}
+use Rattle.relation_states.specs.Asked.{relation_of}
 use Rattle.relation_alone.proofs.Laws.{method-broken, method-bare, method-counts, method-answers}
 use Rattle.relation_alone.proofs.method_alone.Statement.{statement}
 use Rattle.relation_alone.proofs.method_alone.Tie as tie
 
 -- the two methods, which have four slots each
 abbrev left : tie.Start → RawMethod
-left c = rawIn c.args.b.now c.args.a c.args.j
+left c = raw_in c.args.b.now c.args.a c.args.j
 
 abbrev right : tie.Start → RawMethod
-right c = rawIn c.args.b.now c.args.d c.args.j
+right c = raw_in c.args.b.now c.args.d c.args.j
 
-left-slots : (c : tie.Start) → length (left c).args ≡ argumentSlots
+left-slots : (c : tie.Start) → length (left c).args ≡ argument_slots
 left-slots c = slots_length c.args.b.now c.args.a c.args.j c.requires.1 c.requires.3
 
-right-slots : (c : tie.Start) → length (right c).args ≡ argumentSlots
+right-slots : (c : tie.Start) → length (right c).args ≡ argument_slots
 right-slots c = slots_length c.args.b.now c.args.d c.args.j c.requires.2 c.requires.3
 
 method-state-requires : tie.Need-method-state-requires
@@ -40,7 +40,7 @@ returns c =
     let x = c.before.before.before.method-state in
     let y = c.before.before.method-state2 in
     let fine = c.before.state-rule in
-    method-broken (relationOf s.args.k) (left s) (right s) (left-slots s) (right-slots s) x.result y.result x.ensures y.ensures fine.result fine.ensures
+    method-broken (relation_of s.args.k) (left s) (right s) (left-slots s) (right-slots s) x.result y.result x.ensures y.ensures fine.result fine.ensures
     (not-true fine.result c.if1.true)
 
 both-permit-requires : tie.Need-both-permit-requires
@@ -53,7 +53,7 @@ returns-2 c =
     let y = c.before.before.before.before.method-state2 in
     let fine = c.before.before.before.state-rule in
     let on = c.before.both-permit in
-    method-bare (relationOf s.args.k) (left s) (right s) (left-slots s) (right-slots s) x.result y.result x.ensures y.ensures fine.result fine.ensures
+    method-bare (relation_of s.args.k) (left s) (right s) (left-slots s) (right-slots s) x.result y.result x.ensures y.ensures fine.result fine.ensures
     (not-false fine.result c.before.before.if1.false) on.result on.ensures (not-true on.result c.if2.true)
 
 method-count-requires : tie.Need-method-count-requires
@@ -77,7 +77,7 @@ returns-3 c =
     let i = c.before.before.before.method-count in
     let j = c.before.before.method-count2 in
     let same = c.before.same_count in
-    method-counts (relationOf s.args.k) (left s) (right s) (left-slots s) (right-slots s) x.result y.result x.ensures y.ensures fine.result fine.ensures e
+    method-counts (relation_of s.args.k) (left s) (right s) (left-slots s) (right-slots s) x.result y.result x.ensures y.ensures fine.result fine.ensures e
     on.result on.ensures o i.result j.result i.ensures j.ensures same.result same.ensures (not-true same.result c.if3.true)
 
 method-answer-requires : tie.Need-method-answer-requires
@@ -105,7 +105,7 @@ returns-4 c =
     let u = c.before.before.method-answer in
     let v = c.before.method-answer2 in
     let r = c.both-answer in
-    method-answers (relationOf s.args.k) (left s) (right s) (left-slots s) (right-slots s) x.result y.result x.ensures y.ensures fine.result fine.ensures e
+    method-answers (relation_of s.args.k) (left s) (right s) (left-slots s) (right-slots s) x.result y.result x.ensures y.ensures fine.result fine.ensures e
     on.result on.ensures o i.result j.result i.ensures j.ensures same.result same.ensures h
     u.result v.result u.ensures v.ensures r.result r.ensures
 

@@ -5,24 +5,24 @@ use Prim.Native.Nat.{ℕ, ◌-◌, ◌≤◌}
 use native.Mathlib.Omega.{arith}
 use borrow.Author.Rules.{rules}
 use borrow.Author.Tests.{not-true, not-false}
-use Rattle.spec_model.specs.Relations.{methodRule}
-use Rattle.table_record.specs.Store.{methodIn}
-use Rattle.relation_states.specs.Asked.{relationOf}
-use Rattle.relation_rule.specs.Parts.{eachBelow}
+use Rattle.spec_model.specs.Relations.{method_rule}
+use Rattle.table_record.specs.Store.{method_in}
+use Rattle.relation_states.specs.Asked.{relation_of}
+use Rattle.relation_rule.specs.Parts.{each_below}
 use Rattle.relation_rule.proofs.Types.{each_none, each_more, each-broken, each-end}
 use Rattle.relation_slots.specs.Slots.{always}
 use Rattle.relation_alone.proofs.methods_alone.Statement.{statement}
 use Rattle.relation_alone.proofs.methods_alone.Tie as tie
 
 abbrev invariant-loop : tie.invariant-loop
-invariant-loop b k square methods a d j₀ j = (j ≤ methods) × So (eachBelow j (λ i. methodRule (relationOf k) always (methodIn b a i) (methodIn b d i)))
+invariant-loop b k square methods a d j₀ j = (j ≤ methods) × So (each_below j (λ i. method_rule (relation_of k) always (method_in b a i) (method_in b d i)))
 
 abbrev decreases-loop : tie.decreases-loop
 decreases-loop b k square methods a d j₀ j = methods - j
 
 -- the rule of method j
 abbrev keeps : tie.Start invariant-loop decreases-loop → ℕ → Bool
-keeps c j = methodRule (relationOf c.args.k) always (methodIn c.args.b.now c.args.a j) (methodIn c.args.b.now c.args.d j)
+keeps c j = method_rule (relation_of c.args.k) always (method_in c.args.b.now c.args.a j) (method_in c.args.b.now c.args.d j)
 
 loop-holds : tie.Need-loop-init invariant-loop decreases-loop
 loop-holds c = (omega arith, each_none (keeps c))

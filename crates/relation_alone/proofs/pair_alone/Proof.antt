@@ -2,9 +2,9 @@
 use mathlib.Core.Path.{◌∙◌}
 use native.Mathlib.Omega.{arith}
 use borrow.Author.Tests.{not-true, not-false}
-use Rattle.relation_states.specs.Asked.{relationOf}
+use Rattle.relation_states.specs.Asked.{relation_of}
 use Rattle.relation_rule.proofs.Types.{rule-broken, rule-numbers, rule-methods}
-use Rattle.relation_slots.specs.Slots.{always, keepsAlone}
+use Rattle.relation_slots.specs.Slots.{always, keeps_alone}
 use Rattle.relation_alone.proofs.pair_alone.Statement.{statement}
 use Rattle.relation_alone.proofs.pair_alone.Tie as tie
 
@@ -18,25 +18,25 @@ outer-rule-requires : tie.Need-outer-rule-requires
 outer-rule-requires c κs = c.before.before.requires.1
 
 returns : tie.Need-returns
-unfolding keepsAlone
+unfolding keeps_alone
 returns c =
     let a = c.before.before.before.before.args in
     let pre = c.before.before.before.before.requires in
     let x = c.before.before.before.get-head in
     let y = c.before.before.get-head2 in
     let fine = c.before.outer-rule in
-    rule-broken a.b.now a.l.now a.c (relationOf a.k) a.a a.d pre.2 pre.3 x.result y.result x.ensures y.ensures fine.result
+    rule-broken a.b.now a.l.now a.c (relation_of a.k) a.a a.d pre.2 pre.3 x.result y.result x.ensures y.ensures fine.result
     (fine.ensures a.b.now) (not-true fine.result c.if1.true) always
 
 returns-2 : tie.Need-returns-2
-unfolding keepsAlone
+unfolding keeps_alone
 returns-2 c =
     let a = c.before.before.before.before.before.before.args in
     let pre = c.before.before.before.before.before.before.requires in
     let x = c.before.before.before.before.before.get-head in
     let y = c.before.before.before.before.get-head2 in
     let fine = c.before.before.before.outer-rule in
-    rule-numbers a.b.now a.l.now a.c (relationOf a.k) a.a a.d pre.2 pre.3 x.result y.result x.ensures y.ensures fine.result
+    rule-numbers a.b.now a.l.now a.c (relation_of a.k) a.a a.d pre.2 pre.3 x.result y.result x.ensures y.ensures fine.result
     (fine.ensures a.b.now) (not-false fine.result c.before.before.if1.false) c.if2.true always
 
 methods-alone-requires : tie.Need-methods-alone-requires
@@ -45,7 +45,7 @@ methods-alone-requires c κs =
     (pre.0, omega (arith, pre.2, pre.1.limits.types), omega (arith, pre.3, pre.1.limits.types), pre.1.limits.methods)
 
 returns-3 : tie.Need-returns-3
-unfolding keepsAlone
+unfolding keeps_alone
 returns-3 c =
     let a = c.before.before.before.before.before.before.before.args in
     let pre = c.before.before.before.before.before.before.before.requires in
@@ -53,7 +53,7 @@ returns-3 c =
     let y = c.before.before.before.before.before.get-head2 in
     let fine = c.before.before.before.before.outer-rule in
     c.methods-alone.ensures
-    ∙ rule-methods a.b.now a.l.now a.c (relationOf a.k) a.a a.d pre.2 pre.3 x.result y.result x.ensures y.ensures fine.result
+    ∙ rule-methods a.b.now a.l.now a.c (relation_of a.k) a.a a.d pre.2 pre.3 x.result y.result x.ensures y.ensures fine.result
     (fine.ensures a.b.now) (not-false fine.result c.before.before.before.if1.false) c.before.if2.false always
 
 pub pair-alone-spec : {M : Type 1} → statement M

@@ -4,22 +4,22 @@ use mathlib.Core.Bool.{Bool}
 use Prim.Native.Nat.{ℕ, ◌≤◌}
 use native.Mathlib.Omega.{arith}
 use borrow.Author.Rules.{rules}
-use Rattle.table_record.specs.Store.{tableIn}
-use Rattle.relation_states.specs.Asked.{relationOf}
-use Rattle.relation_slots.specs.Slots.{keepsAlone}
+use Rattle.table_record.specs.Store.{table_in}
+use Rattle.relation_states.specs.Asked.{relation_of}
+use Rattle.relation_slots.specs.Slots.{keeps_alone}
 use Rattle.relation_alone.proofs.Laws.{Above, above-none, above_more, above-fits, above-all, row_is}
 use Rattle.relation_alone.proofs.row_alone.Statement.{statement}
 use Rattle.relation_alone.proofs.row_alone.Tie as tie
 
 abbrev invariant-loop : tie.invariant-loop
-invariant-loop b l c k square a r₀ d₀ r d = (d ≤ c.types) × (r ≡ Above c.types (keepsAlone (relationOf k) (tableIn b l c) a) d)
+invariant-loop b l c k square a r₀ d₀ r d = (d ≤ c.types) × (r ≡ Above c.types (keeps_alone (relation_of k) (table_in b l c) a) d)
 
 abbrev decreases-loop : tie.decreases-loop
 decreases-loop b l c k square a r₀ d₀ r d = d
 
 -- bit d of the row
 abbrev keeps : tie.Start invariant-loop decreases-loop → ℕ → Bool
-keeps c = keepsAlone (relationOf c.args.k) (tableIn c.args.b.now c.args.l.now c.args.c) c.args.a
+keeps c = keeps_alone (relation_of c.args.k) (table_in c.args.b.now c.args.l.now c.args.c) c.args.a
 
 loop-holds : tie.Need-loop-init invariant-loop decreases-loop
 loop-holds c = (omega arith, above-none c.args.c.types (keeps c))
@@ -55,7 +55,7 @@ returns c =
     let s = c.before.before in
     let a = s.args in
     let loop = c.before.loop in
-    row_is (relationOf a.k) a.b.now a.l.now a.c a.a loop.r
+    row_is (relation_of a.k) a.b.now a.l.now a.c a.a loop.r
     (above-all a.c.types (keeps s) loop.d loop.r loop.invariant.1 c.loop-test.false)
 
 pub row-alone-spec : {M : Type 1} → statement M

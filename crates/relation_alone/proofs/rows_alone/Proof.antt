@@ -4,29 +4,29 @@ use Prim.Native.Nat.{ℕ, ◌-◌, ◌≤◌, ◌<◌}
 use native.Mathlib.Omega.{arith}
 use lib.ListN.{length, length-set}
 use borrow.Author.Rules.{rules}
-use Rattle.spec_model.specs.Table.{maxSheetTypes}
-use Rattle.table_record.specs.Store.{tableIn}
-use Rattle.relation_states.specs.Asked.{relationOf}
-use Rattle.relation_alone.specs.Alone.{rowAlone}
+use Rattle.spec_model.specs.Table.{max_sheet_types}
+use Rattle.table_record.specs.Store.{table_in}
+use Rattle.relation_states.specs.Asked.{relation_of}
+use Rattle.relation_alone.specs.Alone.{row_alone}
 use Rattle.relation_alone.proofs.Laws.{Filled, filled_none, filled_more, rows_are}
 use Rattle.relation_alone.proofs.rows_alone.Statement.{statement}
 use Rattle.relation_alone.proofs.rows_alone.Tie as tie
 
 abbrev invariant-loop : tie.invariant-loop
-invariant-loop b l c k square rows₀ a₀ rows a = (a ≤ c.types) × (length rows ≡ maxSheetTypes) × Filled (rowAlone (relationOf k) (tableIn b l c)) a rows
+invariant-loop b l c k square rows₀ a₀ rows a = (a ≤ c.types) × (length rows ≡ max_sheet_types) × Filled (row_alone (relation_of k) (table_in b l c)) a rows
 
 abbrev decreases-loop : tie.decreases-loop
 decreases-loop b l c k square rows₀ a₀ rows a = c.types - a
 
 -- the rows of the table
 abbrev row : tie.Start invariant-loop decreases-loop → ℕ → ℕ
-row c = rowAlone (relationOf c.args.k) (tableIn c.args.b.now c.args.l.now c.args.c)
+row c = row_alone (relation_of c.args.k) (table_in c.args.b.now c.args.l.now c.args.c)
 
 state-square-requires : tie.Need-state-square-requires invariant-loop decreases-loop
 state-square-requires c κs = search rules
 
 loop-holds : tie.Need-loop-init invariant-loop decreases-loop
-loop-holds c = (omega arith, refl, filled_none (row c.before) maxSheetTypes)
+loop-holds c = (omega arith, refl, filled_none (row c.before) max_sheet_types)
 
 row-alone-requires : tie.Need-row-alone-requires invariant-loop decreases-loop
 row-alone-requires c κs = let pre = c.before.before.before.before.before.requires in (c.before.before.before.before.state-square.ensures, pre.0, pre.1, c.before.if1.true)
@@ -59,7 +59,7 @@ returns : tie.Need-returns invariant-loop decreases-loop
 returns c =
     let a = c.before.before.before.before.args in
     let loop = c.before.before.loop in
-    rows_are (relationOf a.k) a.b.now a.l.now a.c loop.a loop.rows loop.invariant.0 c.if1.false loop.invariant.1 loop.invariant.2
+    rows_are (relation_of a.k) a.b.now a.l.now a.c loop.a loop.rows loop.invariant.0 c.if1.false loop.invariant.1 loop.invariant.2
 
 pub rows-alone-spec : {M : Type 1} → statement M
 rows-alone-spec =

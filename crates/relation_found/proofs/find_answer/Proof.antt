@@ -1,6 +1,6 @@
 -- One law for each way in which it returns.
 use borrow.Author.Rules.{rules}
-use Rattle.relation_found.specs.Found.{marksIn, queueIn}
+use Rattle.relation_found.specs.Found.{marks_in, queue_in}
 use Rattle.relation_found.proofs.Steps.{answers-none, answers-left, answers-right, answers-both}
 use Rattle.relation_found.proofs.find_answer.Statement.{statement}
 use Rattle.relation_found.proofs.find_answer.Tie as tie
@@ -19,7 +19,7 @@ returns c =
     let pre = c.before.before.before.before.before.requires in
     let if1 = c.before.if1 in
     let if2 = c.if2 in
-    answers-none a.n a.x a.y wide.result wide2.result wide.ensures.0 wide2.ensures.0 (marksIn a.found.now) (queueIn a.found.now) a.tail
+    answers-none a.n a.x a.y wide.result wide2.result wide.ensures.0 wide2.ensures.0 (marks_in a.found.now) (queue_in a.found.now) a.tail
     pre if1.true if2.true
 
 returns-2 : tie.Need-returns-2
@@ -60,8 +60,8 @@ returns-4 c =
     let find-pair = c.before.before.find-pair in
     let if1 = c.before.before.before.before.before.if1 in
     let if3 = c.before.before.before.before.if3 in
-    answers-both a.n a.x a.y wide.result wide2.result wide.ensures.0 wide2.ensures.0 (marksIn a.found.now) (queueIn a.found.now) a.tail
-    (marksIn find-pair.new.0) (queueIn find-pair.new.0) find-pair.result if1.false if3.false find-pair.ensures
+    answers-both a.n a.x a.y wide.result wide2.result wide.ensures.0 wide2.ensures.0 (marks_in a.found.now) (queue_in a.found.now) a.tail
+    (marks_in find-pair.new.0) (queue_in find-pair.new.0) find-pair.result if1.false if3.false find-pair.ensures
 
 pub find-answer-spec : {M : Type 1} → statement M
 find-answer-spec =

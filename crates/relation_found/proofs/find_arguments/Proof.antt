@@ -6,18 +6,18 @@ use native.Mathlib.Omega.{arith}
 use lib.ListN.{length, take}
 use borrow.Author.Rules.{rules}
 use Rattle.spec_model.specs.Check.{RawMethod}
-use Rattle.spec_model.specs.Relations.{argsRule}
-use Rattle.spec_model.specs.Records.{argumentSlots}
-use Rattle.table_record.specs.Store.{rawIn}
+use Rattle.spec_model.specs.Relations.{args_rule}
+use Rattle.spec_model.specs.Records.{argument_slots}
+use Rattle.table_record.specs.Store.{raw_in}
 use Rattle.table_record.proofs.Laws.{slots_length}
-use Rattle.relation_found.specs.Found.{Grew, marksIn, queueIn}
+use Rattle.relation_found.specs.Found.{Grew, marks_in, queue_in}
 use Rattle.relation_found.proofs.Steps.{arguments-differ, arguments-start, arguments-broke, arguments-more, arguments-end}
 use Rattle.relation_found.proofs.find_arguments.Statement.{statement}
 use Rattle.relation_found.proofs.find_arguments.Tie as tie
 
 abbrev invariant-loop : tie.invariant-loop
 invariant-loop b found₀ tail n a d j count other used t₀ i₀ found t i =
-    (i ≤ used) × Grew n (λ M. argsRule M (take i (rawIn b a j).args) (take i (rawIn b d j).args)) (marksIn found₀) (queueIn found₀) tail (marksIn found) (queueIn found) t
+    (i ≤ used) × Grew n (λ M. args_rule M (take i (raw_in b a j).args) (take i (raw_in b d j).args)) (marks_in found₀) (queue_in found₀) tail (marks_in found) (queue_in found) t
     × (length found ≡ length found₀)
 
 abbrev decreases-loop : tie.decreases-loop
@@ -28,15 +28,15 @@ abbrev Start : Type 0
 Start = tie.Start invariant-loop decreases-loop
 
 abbrev left : Start → RawMethod
-left c = rawIn c.args.b.now c.args.a c.args.j
+left c = raw_in c.args.b.now c.args.a c.args.j
 
 abbrev right : Start → RawMethod
-right c = rawIn c.args.b.now c.args.d c.args.j
+right c = raw_in c.args.b.now c.args.d c.args.j
 
-left-slots : (c : Start) → length (left c).args ≡ argumentSlots
+left-slots : (c : Start) → length (left c).args ≡ argument_slots
 left-slots c = slots_length c.args.b.now c.args.a c.args.j c.requires.1 c.requires.3
 
-right-slots : (c : Start) → length (right c).args ≡ argumentSlots
+right-slots : (c : Start) → length (right c).args ≡ argument_slots
 right-slots c = slots_length c.args.b.now c.args.d c.args.j c.requires.2 c.requires.3
 
 -- how many of its slots the first uses, and, where the counts are the same or use as many, the second
@@ -84,7 +84,7 @@ returns c =
 loop-holds : tie.Need-loop-init invariant-loop decreases-loop
 loop-holds c =
     let s = start c.before in
-    (omega arith, arguments-start s.args.n (left s).args (right s).args (marksIn s.args.found.now) (queueIn s.args.found.now) s.args.tail s.pre.0, refl)
+    (omega arith, arguments-start s.args.n (left s).args (right s).args (marks_in s.args.found.now) (queue_in s.args.found.now) s.args.tail s.pre.0, refl)
 
 method-argument-requires : tie.Need-method-argument-requires invariant-loop decreases-loop
 method-argument-requires c κs = search rules
@@ -144,10 +144,10 @@ loop-again c =
       omega (arith, loop-test.true),
       arguments-more s.args.n (left s).args (right s).args (left-slots s) (right-slots s) (left s).count (right s).count j.before.slots-used.result
           j.before.slots-used.ensures.0 (left-used j.before) (right-used j)
-          (marksIn s.args.found.now) (queueIn s.args.found.now) s.args.tail loop.i (marksIn loop.found) (queueIn loop.found) loop.t loop.invariant.1
+          (marks_in s.args.found.now) (queue_in s.args.found.now) s.args.tail loop.i (marks_in loop.found) (queue_in loop.found) loop.t loop.invariant.1
           loop-test.true x.wide.result y.wide2.result
           (x.wide.ensures.0 ∙ x.before.method-argument.ensures) (y.wide2.ensures.0 ∙ y.before.method-argument2.ensures)
-          (marksIn find-pair.new.0) (queueIn find-pair.new.0) c.before.r.given.0.0 (rw c.before.r.given.1 at find-pair.ensures),
+          (marks_in find-pair.new.0) (queue_in find-pair.new.0) c.before.r.given.0.0 (rw c.before.r.given.1 at find-pair.ensures),
       e ∙ loop.invariant.2,
     )
 
@@ -161,7 +161,7 @@ returns-3 c =
     let loop = c.before.loop in
     arguments-end s.args.n (left s).args (right s).args (left-slots s) (right-slots s) (left s).count (right s).count j.before.slots-used.result
     j.before.slots-used.ensures.0 (left-used j.before) (right-used j)
-    (marksIn s.args.found.now) (queueIn s.args.found.now) s.args.tail loop.i (marksIn loop.found) (queueIn loop.found) loop.t loop.invariant.1
+    (marks_in s.args.found.now) (queue_in s.args.found.now) s.args.tail loop.i (marks_in loop.found) (queue_in loop.found) loop.t loop.invariant.1
     c.loop-test.false loop.invariant.0
 
 pub find-arguments-spec : {M : Type 1} → statement M

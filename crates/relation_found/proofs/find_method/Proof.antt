@@ -5,29 +5,29 @@ use mathlib.Core.Bool.{◌&&◌}
 use borrow.Author.Tests.{not-true, not-false}
 use borrow.Author.Rules.{rules}
 use Rattle.spec_model.specs.Table.{permit}
-use Rattle.spec_model.specs.Relations.{stateRule}
+use Rattle.spec_model.specs.Relations.{state_rule}
 use Rattle.spec_model.specs.Check.{RawMethod, state_of}
-use Rattle.table_record.specs.Store.{rawIn}
-use Rattle.relation_found.specs.Found.{marksIn, queueIn}
+use Rattle.table_record.specs.Store.{raw_in}
+use Rattle.relation_found.specs.Found.{marks_in, queue_in}
 use Rattle.relation_found.proofs.Steps.{method-broke, method-bare, method-args, method-answer}
-use Rattle.relation_states.specs.Asked.{relationOf}
+use Rattle.relation_states.specs.Asked.{relation_of}
 use Rattle.relation_found.proofs.find_method.Statement.{statement}
 use Rattle.relation_found.proofs.find_method.Tie as tie
 
 -- the two methods
 abbrev left : tie.Start → RawMethod
-left c = rawIn c.args.b.now c.args.a c.args.j
+left c = raw_in c.args.b.now c.args.a c.args.j
 
 abbrev right : tie.Start → RawMethod
-right c = rawIn c.args.b.now c.args.d c.args.j
+right c = raw_in c.args.b.now c.args.d c.args.j
 
 -- what the state rule says of them, and whether both permit
 abbrev start : tie.After-state-rule → tie.Start
 start c = c.before.before.before.before
 
-fine : (c : tie.After-state-rule) → let s = start c in c.state-rule.result ≡ stateRule (relationOf s.args.k) (state_of (left s).state) (state_of (right s).state)
+fine : (c : tie.After-state-rule) → let s = start c in c.state-rule.result ≡ state_rule (relation_of s.args.k) (state_of (left s).state) (state_of (right s).state)
 fine c = c.state-rule.ensures
-    ∙ ap₂ (λ (x y : ℕ). stateRule (relationOf (start c).args.k) (state_of x) (state_of y)) c.before.before.method-state.ensures c.before.method-state2.ensures
+    ∙ ap₂ (λ (x y : ℕ). state_rule (relation_of (start c).args.k) (state_of x) (state_of y)) c.before.before.method-state.ensures c.before.method-state2.ensures
 
 abbrev asked : tie.After-both-permit → tie.After-state-rule
 asked c = c.before.before
@@ -49,7 +49,7 @@ returns : tie.Need-returns
 returns c =
     let f = c.before in
     let s = start f in
-    method-broke s.args.n (relationOf s.args.k) (left s) (right s) f.state-rule.result (fine f) (not-true f.state-rule.result c.if1.true)
+    method-broke s.args.n (relation_of s.args.k) (left s) (right s) f.state-rule.result (fine f) (not-true f.state-rule.result c.if1.true)
 
 both-permit-requires : tie.Need-both-permit-requires
 both-permit-requires c κs = search rules
@@ -59,8 +59,8 @@ returns-2 c =
     let g = c.before in
     let f = asked g in
     let s = start f in
-    method-bare s.args.n (relationOf s.args.k) (left s) (right s) f.state-rule.result (fine f) (not-false f.state-rule.result g.before.if1.false)
-    g.both-permit.result (both g) (marksIn s.args.found.now) (queueIn s.args.found.now) s.args.tail s.pre.0 (not-true g.both-permit.result c.if2.true)
+    method-bare s.args.n (relation_of s.args.k) (left s) (right s) f.state-rule.result (fine f) (not-false f.state-rule.result g.before.if1.false)
+    g.both-permit.result (both g) (marks_in s.args.found.now) (queue_in s.args.found.now) s.args.tail s.pre.0 (not-true g.both-permit.result c.if2.true)
 
 find-arguments-requires : tie.Need-find-arguments-requires
 find-arguments-requires c κs = let p = c.before.before.before.before.before.before.before.before.requires in (p.0, p.2, p.3, p.4)
@@ -79,7 +79,7 @@ returns-3 c =
     let g = c.before.before.before.before.before.before.before in
     let f = asked g in
     let s = start f in
-    method-args s.args.n (relationOf s.args.k) (left s) (right s) f.state-rule.result (fine f) (not-false f.state-rule.result g.before.if1.false)
+    method-args s.args.n (relation_of s.args.k) (left s) (right s) f.state-rule.result (fine f) (not-false f.state-rule.result g.before.if1.false)
     g.both-permit.result (both g) (not-false g.both-permit.result c.before.before.before.before.before.before.if2.false)
     (rw c.enum_told.given.1 at c.before.before.before.before.find-arguments.ensures)
 
@@ -105,10 +105,10 @@ returns-4 c =
     let x = c.before.before.before.before.method-answer in
     let y = c.before.before.before.method-answer2 in
     let answer = c.before.before.find-answer in
-    method-answer s.args.n (relationOf s.args.k) (left s) (right s) f.state-rule.result (fine f) (not-false f.state-rule.result g.before.if1.false)
+    method-answer s.args.n (relation_of s.args.k) (left s) (right s) f.state-rule.result (fine f) (not-false f.state-rule.result g.before.if1.false)
     g.both-permit.result (both g) (not-false g.both-permit.result c.before.before.before.before.before.before.before.before.before.before.before.before.before.if2.false)
-    (marksIn s.args.found.now) (queueIn s.args.found.now) s.args.tail
-    (marksIn args.new.1.0) (queueIn args.new.1.0) r.given.0.0 (rw r.given.1 at args.ensures) (marksIn answer.new.0) (queueIn answer.new.0) answer.result
+    (marks_in s.args.found.now) (queue_in s.args.found.now) s.args.tail
+    (marks_in args.new.1.0) (queue_in args.new.1.0) r.given.0.0 (rw r.given.1 at args.ensures) (marks_in answer.new.0) (queue_in answer.new.0) answer.result
     x.result y.result x.ensures y.ensures answer.ensures
 
 pub find-method-spec : {M : Type 1} → statement M

@@ -4,8 +4,8 @@ use Prim.Native.Nat.{◌+◌, ◌*◌, ◌<◌}
 use native.Mathlib.Omega.{arith}
 use borrow.Author.Rules.{rules}
 use lib.ListN.{length}
-use Rattle.spec_model.specs.Table.{maxTypes}
-use Rattle.relation_found.specs.Found.{marksIn, queueIn}
+use Rattle.spec_model.specs.Table.{max_types}
+use Rattle.relation_found.specs.Found.{marks_in, queue_in}
 use Rattle.relation_found.proofs.Pairs.{pair_left, pair-right, pair-seen, room}
 use Rattle.relation_found.proofs.Buffer.{mark-at, buffer-length, entry_in, pair-added}
 use Rattle.relation_found.proofs.find_pair.Statement.{statement}
@@ -52,8 +52,8 @@ returns-2 c =
     let pre = c.before.before.before.before.before.requires in
     let is_found = c.before.is_found in
     let i = entry_in a.n a.found.now a.tail a.x a.y pre c.before.before.before.if1.false in
-    let known = mark-at a.found.now (a.x * maxTypes + a.y) is_found.result true is_found.ensures c.if2.true in
-    pair-seen a.n (marksIn a.found.now) (queueIn a.found.now) a.tail a.x a.y pre i.1 known
+    let known = mark-at a.found.now (a.x * max_types + a.y) is_found.result true is_found.ensures c.if2.true in
+    pair-seen a.n (marks_in a.found.now) (queue_in a.found.now) a.tail a.x a.y pre i.1 known
 
 returns-3 : tie.Need-returns-3
 returns-3 c = let a = c.before.before.before.before.before.before.args in pair_left a.n a.x a.y c.if3.true
@@ -66,11 +66,11 @@ add-pair-requires c κs =
     let a = c.before.before.before.before.before.before.before.before.args in
     let pre = c.before.before.before.before.before.before.before.before.requires in
     let is_found = c.before.before.before.before.is_found in
-    let new = mark-at a.found.now (a.x * maxTypes + a.y) is_found.result false is_found.ensures c.before.before.before.if2.false in
+    let new = mark-at a.found.now (a.x * max_types + a.y) is_found.result false is_found.ensures c.before.before.before.if2.false in
     let i = entry_in a.n a.found.now a.tail a.x a.y pre c.before.before.before.before.before.before.if1.false in
     let e = buffer-length a.found.now in
-    let at : a.x * maxTypes + a.y < length (marksIn a.found.now) = omega (arith, i.2) in
-    let r = room a.n (marksIn a.found.now) (queueIn a.found.now) a.tail (a.x * maxTypes + a.y) pre at new in
+    let at : a.x * max_types + a.y < length (marks_in a.found.now) = omega (arith, i.2) in
+    let r = room a.n (marks_in a.found.now) (queue_in a.found.now) a.tail (a.x * max_types + a.y) pre at new in
     (omega arith, i.2, omega (arith, pre.few))
 
 same-length-2 : tie.Need-same-length-2
@@ -83,7 +83,7 @@ returns-5 c =
     let is_found = c.before.before.before.before.before.before.before.is_found in
     let if2 = c.before.before.before.before.before.before.if2 in
     let add-pair = c.before.before.add-pair in
-    let new = mark-at a.found.now (a.x * maxTypes + a.y) is_found.result false is_found.ensures if2.false in
+    let new = mark-at a.found.now (a.x * max_types + a.y) is_found.result false is_found.ensures if2.false in
     pair-added a.n a.found.now a.tail a.x a.y pre c.before.before.before.before.before.if3.false c.before.before.before.before.if4.false new
     add-pair.new.0 add-pair.result add-pair.ensures
 

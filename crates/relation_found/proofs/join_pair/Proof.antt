@@ -4,12 +4,12 @@ use Prim.Native.Nat.{◌+◌, ◌*◌, ◌<◌}
 use native.Mathlib.Omega.{arith}
 use borrow.Author.Rules.{rules}
 use lib.ListN.{length}
-use Rattle.relation_found.specs.Found.{marksIn, queueIn}
+use Rattle.relation_found.specs.Found.{marks_in, queue_in}
 use Rattle.relation_found.proofs.Pairs.{pair_left, pair-right, pair-known, room}
 use Rattle.relation_found.proofs.Buffer.{mark-at, buffer-length, pair-added}
 use Rattle.relation_found.proofs.join_pair.Statement.{statement}
 use Rattle.relation_found.proofs.join_pair.Tie as tie
-use Rattle.spec_model.specs.Table.{maxTypes}
+use Rattle.spec_model.specs.Table.{max_types}
 
 returns : tie.Need-returns
 returns c = let a = c.before.before.args in pair_left a.n a.x a.y c.if1.true
@@ -43,8 +43,8 @@ returns-3 c =
     let if2 = c.before.before.before.if2 in
     let is_found = c.before.is_found in
     let if3 = c.if3 in
-    let known = mark-at a.found.now (a.x * maxTypes + a.y) is_found.result true is_found.ensures if3.true in
-    pair-known a.n (marksIn a.found.now) (queueIn a.found.now) a.tail a.x a.y pre if1.false if2.false known
+    let known = mark-at a.found.now (a.x * max_types + a.y) is_found.result true is_found.ensures if3.true in
+    pair-known a.n (marks_in a.found.now) (queue_in a.found.now) a.tail a.x a.y pre if1.false if2.false known
 
 add-pair-requires : tie.Need-add-pair-requires
 add-pair-requires c κs =
@@ -52,12 +52,12 @@ add-pair-requires c κs =
     let pre = c.before.before.before.before.before.before.before.requires in
     let is_found = c.before.before.is_found in
     let if3 = c.before.if3 in
-    let new = mark-at a.found.now (a.x * maxTypes + a.y) is_found.result false is_found.ensures if3.false in
+    let new = mark-at a.found.now (a.x * max_types + a.y) is_found.result false is_found.ensures if3.false in
     let e = buffer-length a.found.now in
     let if1 = c.before.before.before.before.before.if1 in
     let if2 = c.before.before.before.before.if2 in
-    let at : a.x * maxTypes + a.y < length (marksIn a.found.now) = omega (arith, pre.slots, pre.small, if1.false, if2.false) in
-    let r = room a.n (marksIn a.found.now) (queueIn a.found.now) a.tail (a.x * maxTypes + a.y) pre at new in
+    let at : a.x * max_types + a.y < length (marks_in a.found.now) = omega (arith, pre.slots, pre.small, if1.false, if2.false) in
+    let r = room a.n (marks_in a.found.now) (queue_in a.found.now) a.tail (a.x * max_types + a.y) pre at new in
     (omega arith, omega arith, omega (arith, pre.few))
 
 same_length : tie.Need-same-length
@@ -72,7 +72,7 @@ returns-4 c =
     let is_found = c.before.before.before.before.before.is_found in
     let if3 = c.before.before.before.before.if3 in
     let add-pair = c.before.before.add-pair in
-    let new = mark-at a.found.now (a.x * maxTypes + a.y) is_found.result false is_found.ensures if3.false in
+    let new = mark-at a.found.now (a.x * max_types + a.y) is_found.result false is_found.ensures if3.false in
     pair-added a.n a.found.now a.tail a.x a.y pre if1.false if2.false new add-pair.new.0 add-pair.result add-pair.ensures
 
 pub join-pair-spec : {M : Type 1} → statement M

@@ -8,15 +8,15 @@ use lib.ListN.{length, get_or, length-set}
 use borrow.Author.Tests.{ne_eqb}
 use borrow.Author.Rules.{rules}
 use Rattle.spec_model.specs.Relations.{reaches}
-use Rattle.spec_model.specs.Table.{maxCategories}
+use Rattle.spec_model.specs.Table.{max_categories}
 use Rattle.table_record.proofs.Lists.{set_next}
-use Rattle.relation_rule.specs.Parts.{broaderIn}
+use Rattle.relation_rule.specs.Parts.{broader_in}
 use Rattle.relation_rule.proofs.Categories.{order_is, next-order, far_order, none-order, self-order}
 use Rattle.relation_rule.proofs.category_le.Statement.{statement}
 use Rattle.relation_rule.proofs.category_le.Tie as tie
 
 abbrev invariant-loop : tie.invariant-loop
-invariant-loop l c a b done₀ x₀ done x = (x ≤ b) × (length done ≡ suc maxCategories) × ((k : ℕ) → k < x → get_or done k false ≡ reaches (suc maxCategories) (broaderIn l c) a k)
+invariant-loop l c a b done₀ x₀ done x = (x ≤ b) × (length done ≡ suc max_categories) × ((k : ℕ) → k < x → get_or done k false ≡ reaches (suc max_categories) (broader_in l c) a k)
 
 abbrev decreases-loop : tie.decreases-loop
 decreases-loop l c a b done₀ x₀ done x = b - x
@@ -63,10 +63,10 @@ loop-again c =
     let loop = c.before.before.before.loop in
     let if1 = c.before.before.before.before.if3 in
     let loop-test = c.before.before.loop-test in
-    let small : loop.x < suc maxCategories = omega (arith, pre.limits.cats, if1.false, loop-test.true) in (
+    let small : loop.x < suc max_categories = omega (arith, pre.limits.cats, if1.false, loop-test.true) in (
       omega arith,
       length-set loop.done loop.x category-next.result ∙ loop.invariant.1,
-      set_next (λ k v. v ≡ reaches (suc maxCategories) (broaderIn a.l.now a.c) a.a k) loop.done
+      set_next (λ k v. v ≡ reaches (suc max_categories) (broader_in a.l.now a.c) a.a k) loop.done
           loop.x category-next.result false (omega (arith, loop.invariant.1)) loop.invariant.2
           (category-next.ensures ∙ next-order a.l.now a.c pre loop.done a.a loop.x small loop.invariant.2),
     )

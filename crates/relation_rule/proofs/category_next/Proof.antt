@@ -1,6 +1,6 @@
 -- One law for each way in which it returns; the links fall, so both numbers are below 32.
 use borrow.Author.Rules.{rules}
-use Rattle.table_record.specs.Store.{rawLinks}
+use Rattle.table_record.specs.Store.{raw_links}
 use Rattle.relation_rule.proofs.Categories.{next-none, next-self, next-zero, next-out, next-first, next-second, next_one, first_below, second_below}
 use Rattle.relation_rule.proofs.category_next.Statement.{statement}
 use Rattle.relation_rule.proofs.category_next.Tie as tie
@@ -41,7 +41,7 @@ element-copy-out-if5 c =
     let if3 = c.before.before.before.before.if3 in
     let if4 = c.before.before.if4 in
     let get-links = c.before.get-links in
-    first_below a.l.now a.c a.x wide.result pre.0 if3.false if4.false (rawLinks get-links.result) get-links.ensures wide.ensures.0
+    first_below a.l.now a.c a.x wide.result pre.0 if3.false if4.false (raw_links get-links.result) get-links.ensures wide.ensures.0
 
 returns-5 : tie.Need-returns-5
 returns-5 c =
@@ -53,7 +53,7 @@ returns-5 c =
     let get-links = c.before.before.before.get-links in
     let wide = c.before.before.wide in
     let if5 = c.if5 in
-    next-first a.l.now a.c a.done.now a.a a.x if1.false if2.false if3.false if4.false (rawLinks get-links.result) get-links.ensures wide.result
+    next-first a.l.now a.c a.done.now a.a a.x if1.false if2.false if3.false if4.false (raw_links get-links.result) get-links.ensures wide.result
     wide.ensures.0 if5.true
 
 wide-requires-2 : tie.Need-wide-requires-2
@@ -68,7 +68,7 @@ element-copy-out-result c =
     let if4 = c.before.before.before.before.before.before.before.if4 in
     let get-links = c.before.before.before.before.before.before.get-links in
     let if6 = c.before.if6 in
-    second_below a.l.now a.c a.x wide2.result pre.0 if3.false if4.false (rawLinks get-links.result) get-links.ensures wide2.ensures.0 if6.true
+    second_below a.l.now a.c a.x wide2.result pre.0 if3.false if4.false (raw_links get-links.result) get-links.ensures wide2.ensures.0 if6.true
 
 returns-6 : tie.Need-returns-6
 returns-6 c =
@@ -82,7 +82,7 @@ returns-6 c =
     let wide2 = c.before.wide2 in
     let if5 = c.before.before.before.before.if5 in
     let if6 = c.before.before.if6 in
-    next-second a.l.now a.c a.done.now a.a a.x if1.false if2.false if3.false if4.false (rawLinks get-links.result) get-links.ensures wide.result
+    next-second a.l.now a.c a.done.now a.a a.x if1.false if2.false if3.false if4.false (raw_links get-links.result) get-links.ensures wide.result
     wide2.result wide.ensures.0 wide2.ensures.0 if5.false if6.true
 
 returns-7 : tie.Need-returns-7
@@ -96,7 +96,7 @@ returns-7 c =
     let wide = c.before.before.before.before.wide in
     let if5 = c.before.before.if5 in
     let if6 = c.if6 in
-    next_one a.l.now a.c a.done.now a.a a.x if1.false if2.false if3.false if4.false (rawLinks get-links.result) get-links.ensures wide.result
+    next_one a.l.now a.c a.done.now a.a a.x if1.false if2.false if3.false if4.false (raw_links get-links.result) get-links.ensures wide.result
     wide.ensures.0 if5.false if6.false
 
 pub category-next-spec : {M : Type 1} → statement M

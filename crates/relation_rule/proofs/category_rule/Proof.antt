@@ -2,8 +2,8 @@
 use mathlib.Core.Path.{◌∙◌, ap}
 use Prim.Native.Nat.{ℕ}
 use borrow.Author.Rules.{rules}
-use Rattle.spec_model.specs.Relations.{catLe}
-use Rattle.table_record.specs.Store.{tableIn}
+use Rattle.spec_model.specs.Relations.{cat_le}
+use Rattle.table_record.specs.Store.{table_in}
 use Rattle.relation_rule.proofs.Laws.{asked, unasked}
 use Rattle.relation_rule.proofs.category_rule.Statement.{statement}
 use Rattle.relation_rule.proofs.category_rule.Tie as tie
@@ -28,16 +28,16 @@ returns c = λ b.
     let if1 = c.before.before.before.if1 in
     let wide2 = c.before.wide2 in
     let wide = c.before.before.wide in
-    let t = tableIn b a.l.now a.c in
-    asked asks-category.ensures (catLe t a.x a.y) category-le.result if1.true
-    (category-le.ensures b ∙ ap (λ (u : ℕ). catLe t u wide2.result) wide.ensures.0 ∙ ap (λ (u : ℕ). catLe t a.x u) wide2.ensures.0)
+    let t = table_in b a.l.now a.c in
+    asked asks-category.ensures (cat_le t a.x a.y) category-le.result if1.true
+    (category-le.ensures b ∙ ap (λ (u : ℕ). cat_le t u wide2.result) wide.ensures.0 ∙ ap (λ (u : ℕ). cat_le t a.x u) wide2.ensures.0)
 
 returns-2 : tie.Need-returns-2
 returns-2 c = λ b.
     let a = c.before.before.args in
     let asks-category = c.before.asks-category in
     let if1 = c.if1 in
-    unasked asks-category.ensures (catLe (tableIn b a.l.now a.c) a.x a.y) if1.false
+    unasked asks-category.ensures (cat_le (table_in b a.l.now a.c) a.x a.y) if1.false
 
 pub category-rule-spec : {M : Type 1} → statement M
 category-rule-spec =

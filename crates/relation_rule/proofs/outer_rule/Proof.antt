@@ -2,9 +2,9 @@
 use mathlib.Core.Path.{◌∙◌, sym}
 use borrow.Author.Tests.{not-true, not-false}
 use borrow.Author.Rules.{rules}
-use Rattle.table_record.specs.Store.{tableIn}
+use Rattle.table_record.specs.Store.{table_in}
 use Rattle.relation_rule.proofs.Outside.{heads-rep, heads-cat, heads-own}
-use Rattle.relation_states.specs.Asked.{relationOf}
+use Rattle.relation_states.specs.Asked.{relation_of}
 use Rattle.relation_rule.proofs.outer_rule.Statement.{statement}
 use Rattle.relation_rule.proofs.outer_rule.Tie as tie
 
@@ -16,7 +16,7 @@ returns c = λ b.
     let a = c.before.before.args in
     let rep-rule = c.before.rep-rule in
     let if1 = c.if1 in
-    heads-rep (relationOf a.k) (tableIn b a.l.now a.c) a.x a.y (sym rep-rule.ensures ∙ not-true rep-rule.result if1.true)
+    heads-rep (relation_of a.k) (table_in b a.l.now a.c) a.x a.y (sym rep-rule.ensures ∙ not-true rep-rule.result if1.true)
 
 category-rule-requires : tie.Need-category-rule-requires
 category-rule-requires c κs = search rules
@@ -28,7 +28,7 @@ returns-2 c = λ b.
     let if1 = c.before.before.if1 in
     let category-rule = c.before.category-rule in
     let if2 = c.if2 in
-    heads-cat (relationOf a.k) (tableIn b a.l.now a.c) a.x a.y (sym rep-rule.ensures ∙ not-false rep-rule.result if1.false)
+    heads-cat (relation_of a.k) (table_in b a.l.now a.c) a.x a.y (sym rep-rule.ensures ∙ not-false rep-rule.result if1.false)
     (sym (category-rule.ensures b) ∙ not-true category-rule.result if2.true)
 
 own-rule-requires : tie.Need-own-rule-requires
@@ -42,7 +42,7 @@ returns-3 c = λ b.
     let if1 = c.before.before.before.if1 in
     let category-rule = c.before.before.category-rule in
     let if2 = c.before.if2 in
-    own-rule.ensures ∙ heads-own (relationOf a.k) (tableIn b a.l.now a.c) a.x a.y (sym rep-rule.ensures ∙ not-false rep-rule.result if1.false)
+    own-rule.ensures ∙ heads-own (relation_of a.k) (table_in b a.l.now a.c) a.x a.y (sym rep-rule.ensures ∙ not-false rep-rule.result if1.false)
     (sym (category-rule.ensures b) ∙ not-false category-rule.result if2.false)
 
 pub outer-rule-spec : {M : Type 1} → statement M

@@ -2,7 +2,7 @@
 use mathlib.Core.Bool.{true}
 use borrow.Author.Rules.{rules}
 use Rattle.spec_model.specs.Basics.{◌⇒◌}
-use Rattle.relation_rule.specs.Parts.{headOwns}
+use Rattle.relation_rule.specs.Parts.{head_owns}
 use Rattle.relation_rule.proofs.Laws.{asked, unasked}
 use Rattle.relation_rule.proofs.own_rule.Statement.{statement}
 use Rattle.relation_rule.proofs.own_rule.Tie as tie
@@ -24,7 +24,7 @@ returns c =
     let if1 = c.before.before.before.if1 in
     let owns = c.before.before.owns in
     let if2 = c.before.if2 in
-    asked asks-own.ensures (headOwns a.x ⇒ headOwns a.y) owns2.result if1.true (asked owns.ensures (headOwns a.y) owns2.result if2.true owns2.ensures)
+    asked asks-own.ensures (head_owns a.x ⇒ head_owns a.y) owns2.result if1.true (asked owns.ensures (head_owns a.y) owns2.result if2.true owns2.ensures)
 
 returns-2 : tie.Need-returns-2
 returns-2 c =
@@ -33,10 +33,10 @@ returns-2 c =
     let if1 = c.before.before.if1 in
     let owns = c.before.owns in
     let if2 = c.if2 in
-    asked asks-own.ensures (headOwns a.x ⇒ headOwns a.y) true if1.true (unasked owns.ensures (headOwns a.y) if2.false)
+    asked asks-own.ensures (head_owns a.x ⇒ head_owns a.y) true if1.true (unasked owns.ensures (head_owns a.y) if2.false)
 
 returns-3 : tie.Need-returns-3
-returns-3 c = let a = c.before.before.args in unasked c.before.asks-own.ensures (headOwns a.x ⇒ headOwns a.y) c.if1.false
+returns-3 c = let a = c.before.before.args in unasked c.before.asks-own.ensures (head_owns a.x ⇒ head_owns a.y) c.if1.false
 
 pub own-rule-spec : {M : Type 1} → statement M
 own-rule-spec =

@@ -1,7 +1,7 @@
 -- The same representation or the same sort, by which of the two the relation asks for (`left`, `right`).
 use borrow.Author.Rules.{rules}
-use Rattle.spec_model.specs.Check.{repOf}
-use Rattle.spec_model.specs.Relations.{sameRep, sameSort}
+use Rattle.spec_model.specs.Check.{rep_of}
+use Rattle.spec_model.specs.Relations.{same_rep, same_sort}
 use Rattle.relation_rule.proofs.Laws.{left, right}
 use Rattle.relation_rule.proofs.rep_rule.Statement.{statement}
 use Rattle.relation_rule.proofs.rep_rule.Tie as tie
@@ -18,7 +18,7 @@ returns c =
     let asks-rep = c.before.before.asks-rep in
     let same-rep = c.same-rep in
     let if1 = c.before.if1 in
-    left asks-rep.ensures (sameRep (repOf a.x) (repOf a.y)) (sameSort (repOf a.x) (repOf a.y)) same-rep.result if1.true same-rep.ensures
+    left asks-rep.ensures (same_rep (rep_of a.x) (rep_of a.y)) (same_sort (rep_of a.x) (rep_of a.y)) same-rep.result if1.true same-rep.ensures
 
 same-sort-requires : tie.Need-same-sort-requires
 same-sort-requires c κs = search rules
@@ -29,7 +29,7 @@ returns-2 c =
     let asks-rep = c.before.before.asks-rep in
     let same-sort = c.same-sort in
     let if1 = c.before.if1 in
-    right asks-rep.ensures (sameRep (repOf a.x) (repOf a.y)) (sameSort (repOf a.x) (repOf a.y)) same-sort.result if1.false same-sort.ensures
+    right asks-rep.ensures (same_rep (rep_of a.x) (rep_of a.y)) (same_sort (rep_of a.x) (rep_of a.y)) same-sort.result if1.false same-sort.ensures
 
 pub rep-rule-spec : {M : Type 1} → statement M
 rep-rule-spec =

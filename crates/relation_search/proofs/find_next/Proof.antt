@@ -1,20 +1,20 @@
 -- What is in the queue is a pair of the table; there are at most 16384.
 use native.Mathlib.Omega.{arith}
 use borrow.Author.Rules.{rules}
-use Rattle.relation_found.specs.Found.{marksIn, queueIn}
+use Rattle.relation_found.specs.Found.{marks_in, queue_in}
 use Rattle.relation_found.proofs.Pairs.{counted, fits}
 use Rattle.relation_found.proofs.Buffer.{queue-at, buffer-length}
 use Rattle.relation_search.proofs.find_next.Statement.{statement}
 use Rattle.relation_search.proofs.find_next.Tie as tie
 
 mul-wide16 : tie.Need-overflow-mul-wide16
-mul-wide16 c = let a = c.before.args in let f = fits a.c.types (marksIn a.found.now) (queueIn a.found.now) a.tail c.before.requires.0 in omega (arith, c.before.requires.3)
+mul-wide16 c = let a = c.before.args in let f = fits a.c.types (marks_in a.found.now) (queue_in a.found.now) a.tail c.before.requires.0 in omega (arith, c.before.requires.3)
 
 slice-read-wide16 : tie.Need-slice-read-wide16
 slice-read-wide16 c =
     let a = c.before.before.args in
     let pre = c.before.before.requires in
-    let f = counted a.c.types (marksIn a.found.now) (queueIn a.found.now) a.tail pre.0 in
+    let f = counted a.c.types (marks_in a.found.now) (queue_in a.found.now) a.tail pre.0 in
     let e = buffer-length a.found.now in
     omega (arith, pre.3)
 

@@ -2,9 +2,9 @@
 use native.Mathlib.Omega.{arith}
 use borrow.Author.Rules.{rules}
 use borrow.Author.Tests.{not-true, not-false}
-use Rattle.relation_found.specs.Found.{marksIn, queueIn}
+use Rattle.relation_found.specs.Found.{marks_in, queue_in}
 use Rattle.relation_search.proofs.Types.{types-broke, types-numbers, types-methods}
-use Rattle.relation_states.specs.Asked.{relationOf}
+use Rattle.relation_states.specs.Asked.{relation_of}
 use Rattle.relation_search.proofs.find_types.Statement.{statement}
 use Rattle.relation_search.proofs.find_types.Tie as tie
 
@@ -24,7 +24,7 @@ returns c =
     let x = c.before.before.before.get-head in
     let y = c.before.before.get-head2 in
     let fine = c.before.outer-rule in
-    types-broke a.b.now a.l.now a.c (relationOf a.k) a.a a.d pre.3 pre.4 x.result y.result x.ensures y.ensures fine.result
+    types-broke a.b.now a.l.now a.c (relation_of a.k) a.a a.d pre.3 pre.4 x.result y.result x.ensures y.ensures fine.result
     (fine.ensures a.b.now) a.c.types (not-true fine.result c.if1.true)
 
 returns-2 : tie.Need-returns-2
@@ -34,9 +34,9 @@ returns-2 c =
     let x = c.before.before.before.before.before.get-head in
     let y = c.before.before.before.before.get-head2 in
     let fine = c.before.before.before.outer-rule in
-    types-numbers a.b.now a.l.now a.c (relationOf a.k) a.a a.d pre.3 pre.4 x.result y.result x.ensures y.ensures fine.result
+    types-numbers a.b.now a.l.now a.c (relation_of a.k) a.a a.d pre.3 pre.4 x.result y.result x.ensures y.ensures fine.result
     (fine.ensures a.b.now) (not-false fine.result c.before.before.if1.false)
-    a.c.types (marksIn a.found.now) (queueIn a.found.now) a.tail c.if2.true pre.0
+    a.c.types (marks_in a.found.now) (queue_in a.found.now) a.tail c.if2.true pre.0
 
 find-methods-requires : tie.Need-find-methods-requires
 find-methods-requires c κs =
@@ -54,9 +54,9 @@ returns-3 c =
     let y = c.before.before.before.before.before.before.before.before.get-head2 in
     let fine = c.before.before.before.before.before.before.before.outer-rule in
     let m = c.before.before.find-methods in
-    types-methods a.b.now a.l.now a.c (relationOf a.k) a.a a.d pre.3 pre.4 x.result y.result x.ensures y.ensures fine.result
+    types-methods a.b.now a.l.now a.c (relation_of a.k) a.a a.d pre.3 pre.4 x.result y.result x.ensures y.ensures fine.result
     (fine.ensures a.b.now) (not-false fine.result c.before.before.before.before.before.before.if1.false)
-    a.c.types (marksIn a.found.now) (queueIn a.found.now) a.tail (marksIn m.new.1.0) (queueIn m.new.1.0)
+    a.c.types (marks_in a.found.now) (queue_in a.found.now) a.tail (marks_in m.new.1.0) (queue_in m.new.1.0)
     m.result c.before.before.before.before.if2.false m.ensures
 
 pub find-types-spec : {M : Type 1} → statement M

@@ -4,20 +4,20 @@ use Prim.Native.Nat.{◌-◌}
 use native.Mathlib.Omega.{arith}
 use lib.ListN.{length}
 use borrow.Author.Rules.{rules}
-use Rattle.table_record.specs.Store.{tableIn}
+use Rattle.table_record.specs.Store.{table_in}
 use Rattle.table_record.proofs.Tables.{size_is}
-use Rattle.relation_states.specs.Asked.{relationOf}
-use Rattle.relation_found.specs.Found.{marksIn, queueIn, maxPairs}
+use Rattle.relation_states.specs.Asked.{relation_of}
+use Rattle.relation_found.specs.Found.{marks_in, queue_in, max_pairs}
 use Rattle.relation_found.proofs.Pairs.{fits}
 use Rattle.relation_search.proofs.Loop.{Going, start-at, again, broken, ended}
 use Rattle.relation_search.proofs.search_in.Statement.{statement}
 use Rattle.relation_search.proofs.search_in.Tie as tie
 
 abbrev invariant-loop : tie.invariant-loop
-invariant-loop b l found₀ c k square t s tail₀ head₀ found tail head = (length found ≡ length found₀) × Going (relationOf k) (tableIn b l c) c.types t s (marksIn found) (queueIn found) tail head
+invariant-loop b l found₀ c k square t s tail₀ head₀ found tail head = (length found ≡ length found₀) × Going (relation_of k) (table_in b l c) c.types t s (marks_in found) (queue_in found) tail head
 
 abbrev decreases-loop : tie.decreases-loop
-decreases-loop b l found₀ c k square t s tail₀ head₀ found tail head = maxPairs - head
+decreases-loop b l found₀ c k square t s tail₀ head₀ found tail head = max_pairs - head
 
 mul-add-pair : tie.Need-overflow-mul-add-pair invariant-loop decreases-loop
 mul-add-pair c = let pre = c.before.before.requires in omega (arith, pre.1.limits.types, pre.2)
@@ -36,7 +36,7 @@ loop-holds c =
     let pre = c.before.before.before.before.before.requires in
     let root = c.before.before.add-pair in (
       refl,
-      start-at (relationOf a.k) (tableIn a.b.now a.l.now a.c) a.c.types a.t a.s (size_is a.b.now a.l.now a.c) a.found.now root.new.0
+      start-at (relation_of a.k) (table_in a.b.now a.l.now a.c) a.c.types a.t a.s (size_is a.b.now a.l.now a.c) a.found.now root.new.0
           root.result pre.4 root.ensures pre.1.limits.types pre.2 pre.3,
     )
 
@@ -61,22 +61,22 @@ returns : tie.Need-returns invariant-loop decreases-loop
 returns c =
     let a = c.before.before.before.before.before.before.before.before.before.before.before.before.before.args in
     let loop = c.before.before.before.before.before.before.before.loop in
-    broken (relationOf a.k) (tableIn a.b.now a.l.now a.c) a.c.types a.t a.s (size_is a.b.now a.l.now a.c) (marksIn loop.found)
-    (queueIn loop.found) loop.tail loop.head loop.invariant.1
+    broken (relation_of a.k) (table_in a.b.now a.l.now a.c) a.c.types a.t a.s (size_is a.b.now a.l.now a.c) (marks_in loop.found)
+    (queue_in loop.found) loop.tail loop.head loop.invariant.1
     c.before.before.before.before.before.before.loop-test.true (rw c.enum_told.given.1 at c.before.before.before.before.find-next.ensures)
 
 add-head : tie.Need-overflow-add-head invariant-loop decreases-loop
 add-head c =
     let loop = c.before.before.before.before.before.before.before.before.loop in
     let n = c.before.before.before.before.before.before.before.before.before.before.before.before.before.before.args.c.types in
-    let f = fits n (marksIn loop.found) (queueIn loop.found) loop.tail loop.invariant.1.listed in
+    let f = fits n (marks_in loop.found) (queue_in loop.found) loop.tail loop.invariant.1.listed in
     omega (arith, c.before.before.before.before.before.before.before.loop-test.true)
 
 loop-less : tie.Need-loop-smaller invariant-loop decreases-loop
 loop-less c =
     let loop = c.before.before.before.before.before.before.before.before.loop in
     let n = c.before.before.before.before.before.before.before.before.before.before.before.before.before.before.args.c.types in
-    let f = fits n (marksIn loop.found) (queueIn loop.found) loop.tail loop.invariant.1.listed in
+    let f = fits n (marks_in loop.found) (queue_in loop.found) loop.tail loop.invariant.1.listed in
     omega (arith, c.before.before.before.before.before.before.before.loop-test.true)
 
 loop-again : tie.Need-loop-preserved invariant-loop decreases-loop
@@ -86,9 +86,9 @@ loop-again c =
     let next = c.before.before.before.before.before.find-next in
     let e : length next.new.1.1.0 ≡ length loop.found = search rules in (
       e ∙ loop.invariant.0,
-      again (relationOf a.k) (tableIn a.b.now a.l.now a.c) a.c.types a.t a.s (size_is a.b.now a.l.now a.c) (marksIn loop.found)
-          (queueIn loop.found) loop.tail loop.head loop.invariant.1
-          c.before.before.before.before.before.before.before.loop-test.true (marksIn next.new.1.1.0) (queueIn next.new.1.1.0) c.before.r.given.0.0
+      again (relation_of a.k) (table_in a.b.now a.l.now a.c) a.c.types a.t a.s (size_is a.b.now a.l.now a.c) (marks_in loop.found)
+          (queue_in loop.found) loop.tail loop.head loop.invariant.1
+          c.before.before.before.before.before.before.before.loop-test.true (marks_in next.new.1.1.0) (queue_in next.new.1.1.0) c.before.r.given.0.0
           (rw c.before.r.given.1 at next.ensures),
     )
 
@@ -101,8 +101,8 @@ returns-2 : tie.Need-returns-2 invariant-loop decreases-loop
 returns-2 c =
     let a = c.before.before.before.before.before.before.before.args in
     let loop = c.before.loop in
-    ended (relationOf a.k) (tableIn a.b.now a.l.now a.c) a.c.types a.t a.s (size_is a.b.now a.l.now a.c) (marksIn loop.found)
-    (queueIn loop.found) loop.tail loop.head loop.invariant.1 c.loop-test.false
+    ended (relation_of a.k) (table_in a.b.now a.l.now a.c) a.c.types a.t a.s (size_is a.b.now a.l.now a.c) (marks_in loop.found)
+    (queue_in loop.found) loop.tail loop.head loop.invariant.1 c.loop-test.false
 
 pub search-in-spec : {M : Type 1} → statement M
 search-in-spec =

@@ -1,7 +1,7 @@
 use Prim.Native.Nat.{◌-◌, ◌*◌, ◌<◌}
 use mathlib.Core.List.{[]}
 use mathlib.Core.Path.{◌≡◌}
-use Rattle.relation_slots.specs.Slots.{sheetSlots}
+use Rattle.relation_slots.specs.Slots.{sheet_slots}
 use Rattle.relation_slots.proofs.Laws.{few-types, Filled, filled-start, filled_more, filled-end}
 use native.Mathlib.Omega.{arith}
 use borrow.Author.Rules.{rules}
@@ -24,7 +24,7 @@ slot-at-requires : tie.Need-slot-at-requires invariant-loop decreases-loop
 slot-at-requires c κs = (omega (arith, c.loop-test.true), omega arith, c.before.before.before.requires)
 
 -- p names a byte
-low : (c : tie.In-loop invariant-loop decreases-loop) → c.before.loop.p < sheetSlots
+low : (c : tie.In-loop invariant-loop decreases-loop) → c.before.loop.p < sheet_slots
 low c = let h = few-types c.before.before.before.args.b.now [] c.before.before.before.args.c (c.before.before.before.requires []) in omega (arith, c.loop-test.true)
 
 array-write-slots : tie.Need-array-write-slots invariant-loop decreases-loop

@@ -2,7 +2,7 @@ use mathlib.Core.Path.{◌≡◌, subst}
 use Prim.Native.Nat.{ℕ, ◌-◌, ◌/◌, ◌%◌, ◌≤◌}
 use Rattle.relation_slots.specs.Noting.{Noted}
 use lib.ListN.{get_or}
-use Rattle.relation_slots.specs.Slots.{typeSlots, sheetSlots}
+use Rattle.relation_slots.specs.Slots.{type_slots, sheet_slots}
 use Rattle.relation_slots.proofs.Laws.{Upto, upto-start, upto-more, upto-end}
 use native.Mathlib.Omega.{arith}
 use borrow.Author.Rules.{rules}
@@ -10,10 +10,10 @@ use Rattle.relation_slots.proofs.users_of.Statement.{statement}
 use Rattle.relation_slots.proofs.users_of.Tie as tie
 
 abbrev invariant-loop : tie.invariant-loop
-invariant-loop slots users₀ p₀ users p = (p ≤ sheetSlots) × Upto slots p users
+invariant-loop slots users₀ p₀ users p = (p ≤ sheet_slots) × Upto slots p users
 
 abbrev decreases-loop : tie.decreases-loop
-decreases-loop slots users₀ p₀ users p = sheetSlots - p
+decreases-loop slots users₀ p₀ users p = sheet_slots - p
 
 loop-holds : tie.Need-loop-init invariant-loop decreases-loop
 loop-holds c = (omega arith, upto-start c.args.slots.now)
@@ -45,7 +45,7 @@ loop-again : tie.Need-loop-preserved invariant-loop decreases-loop
 loop-again c =
     let l = c.before.before.before.before.before.loop in
     let w = c.note.new.0 in
-    let n = subst (λ (x : ℕ). Noted x (l.p % typeSlots) (l.p / typeSlots) l.users w) (read c.before.before) c.note.ensures in
+    let n = subst (λ (x : ℕ). Noted x (l.p % type_slots) (l.p / type_slots) l.users w) (read c.before.before) c.note.ensures in
     (omega (arith, c.before.before.before.before.loop-test.true), upto-more c.before.before.before.before.before.before.args.slots.now l.p l.users w l.invariant.1 n)
 
 returns : tie.Need-returns invariant-loop decreases-loop

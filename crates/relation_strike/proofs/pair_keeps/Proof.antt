@@ -1,21 +1,21 @@
 use Prim.Native.Nat.{◌-◌, ◌≤◌}
 use mathlib.Core.Bool.{So}
-use Rattle.relation_rule.specs.Parts.{eachBelow}
+use Rattle.relation_rule.specs.Parts.{each_below}
 use Rattle.relation_strike.specs.Step.{has}
-use Rattle.relation_strike.proofs.Laws.{method-room, methodAsked, each_none, each-broke, each_more, each-end}
+use Rattle.relation_strike.proofs.Laws.{method-room, method_asked, each_none, each-broke, each_more, each-end}
 use native.Mathlib.Omega.{arith}
 use borrow.Author.Rules.{rules}
 use Rattle.relation_strike.proofs.pair_keeps.Statement.{statement}
 use Rattle.relation_strike.proofs.pair_keeps.Tie as tie
 
 abbrev invariant-loop : tie.invariant-loop
-invariant-loop slots rows methods a d j₀ j = (j ≤ methods) × So (eachBelow j (methodAsked (has rows) slots a d))
+invariant-loop slots rows methods a d j₀ j = (j ≤ methods) × So (each_below j (method_asked (has rows) slots a d))
 
 abbrev decreases-loop : tie.decreases-loop
 decreases-loop slots rows methods a d j₀ j = methods - j
 
 loop-holds : tie.Need-loop-init invariant-loop decreases-loop
-loop-holds c = let a = c.args in (omega arith, each_none (methodAsked (has a.rows.now) a.slots.now a.a a.d))
+loop-holds c = let a = c.args in (omega arith, each_none (method_asked (has a.rows.now) a.slots.now a.a a.d))
 
 mul_at : tie.Need-overflow-mul-at invariant-loop decreases-loop
 mul_at c = search rules
@@ -41,7 +41,7 @@ method-keeps-requires c κs = let a = c.before.before.args in
 returns : tie.Need-returns invariant-loop decreases-loop
 returns c = let a = c.before.before.before.before.args in
     let j = c.before.before.before.loop.j in
-    each-broke (methodAsked (has a.rows.now) a.slots.now a.a a.d) a.methods j c.before.before.loop-test.true c.before.method-keeps.ensures c.if1.true
+    each-broke (method_asked (has a.rows.now) a.slots.now a.a a.d) a.methods j c.before.before.loop-test.true c.before.method-keeps.ensures c.if1.true
 
 add-j : tie.Need-overflow-add-j invariant-loop decreases-loop
 add-j c = search rules
@@ -53,13 +53,13 @@ loop-again : tie.Need-loop-preserved invariant-loop decreases-loop
 loop-again c = let a = c.before.before.before.before.args in
     let now = c.before.before.before.loop in (
       omega (arith, c.before.before.loop-test.true),
-      each_more (methodAsked (has a.rows.now) a.slots.now a.a a.d) now.j c.before.method-keeps.ensures c.if1.false now.invariant.1,
+      each_more (method_asked (has a.rows.now) a.slots.now a.a a.d) now.j c.before.method-keeps.ensures c.if1.false now.invariant.1,
     )
 
 returns-2 : tie.Need-returns-2 invariant-loop decreases-loop
 returns-2 c = let a = c.before.before.args in
     let now = c.before.loop in
-    each-end (methodAsked (has a.rows.now) a.slots.now a.a a.d) a.methods now.j c.loop-test.false now.invariant.0 now.invariant.1
+    each-end (method_asked (has a.rows.now) a.slots.now a.a a.d) a.methods now.j c.loop-test.false now.invariant.0 now.invariant.1
 
 pub pair-keeps-spec : {M : Type 1} → statement M
 pair-keeps-spec =

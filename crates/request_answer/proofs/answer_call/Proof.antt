@@ -6,7 +6,7 @@ use Rattle.state_record.specs.Whole.{whole}
 use Rattle.state_record.proofs.Kept.{sound-few}
 use Rattle.request_common.specs.Served.{done}
 use Rattle.request_answer.proofs.Laws.{keeps_same, cell-low, called, owner-not-held, answered-already, call-gives}
-use Rattle.request_answer.specs.Given.{givenAs}
+use Rattle.request_answer.specs.Given.{given_as}
 use Rattle.request_answer.proofs.answer_call.Statement.{statement}
 use Rattle.request_answer.proofs.answer_call.Tie as tie
 
@@ -19,7 +19,7 @@ wide-requires c κs = search rules
 cell-at-requires : tie.Need-cell-at-requires
 cell-at-requires c κs = let a = c.before.before.args in let s = whole a.types.now a.s in let l = cell-low s c.before.before.requires.0 a.j c.before.before.requires.1
     c.before.call_at.result
-    (c.before.call_at.ensures.1 c.before.before.requires.1) c.wide.result c.wide.ensures.0 in omega (arith, l, c.before.before.requires.0.cellCount)
+    (c.before.call_at.ensures.1 c.before.before.requires.1) c.wide.result c.wide.ensures.0 in omega (arith, l, c.before.before.requires.0.cell_count)
 
 wide-requires-2 : tie.Need-wide-requires-2
 wide-requires-2 c κs = search rules
@@ -48,7 +48,7 @@ returns c = (
       let k = called s h.0 a.j h.1 y.result (y.ensures.1 h.1) c.before.before.before.before.before.before.wide.result
       c.before.before.before.before.before.before.wide.ensures.0 c.before.before.before.before.before.Cell-at.result
       (c.before.before.before.before.before.Cell-at.ensures.1 l) in
-      owner-not-held s h.0 subject a.j (givenAs a.given) y.result c.before.before.before.before.before.Cell-at.result k c.before.before.before.wide2.result
+      owner-not-held s h.0 subject a.j (given_as a.given) y.result c.before.before.before.before.before.Cell-at.result k c.before.before.before.wide2.result
       c.before.before.base-owner.result a.who c.before.before.before.wide2.ensures.0 c.before.before.base-owner.ensures.0 w c.before.if1.true
       (done a.types.now c.refused.result) (ap (done a.types.now) c.refused.ensures),
   keeps_same c.before.before.before.before.before.before.before.before.args.given c.before.before.before.before.before.before.before.before.args.types.now,
@@ -68,7 +68,7 @@ returns-2 c = (
       let k = called s h.0 a.j h.1 y.result (y.ensures.1 h.1) c.before.before.before.before.before.before.before.wide.result
       c.before.before.before.before.before.before.before.wide.ensures.0 c.before.before.before.before.before.before.Cell-at.result
       (c.before.before.before.before.before.before.Cell-at.ensures.1 l) in
-      answered-already s h.0 subject a.j (givenAs a.given) y.result c.before.before.before.before.before.before.Cell-at.result k
+      answered-already s h.0 subject a.j (given_as a.given) y.result c.before.before.before.before.before.before.Cell-at.result k
       c.before.before.before.before.wide2.result c.before.before.before.base-owner.result a.who c.before.before.before.before.wide2.ensures.0
       c.before.before.before.base-owner.ensures.0 w c.before.before.if1.false c.before.if2.true (done a.types.now c.refused2.result)
       (ap (done a.types.now) c.refused2.ensures),
@@ -99,7 +99,7 @@ returns-3 c = (
       let k = called s h.0 a.j h.1 y.result (y.ensures.1 h.1) c.before.before.before.before.before.before.before.before.wide.result
       c.before.before.before.before.before.before.before.before.wide.ensures.0 c.before.before.before.before.before.before.before.Cell-at.result
       (c.before.before.before.before.before.before.before.Cell-at.ensures.1 l) in
-      call-gives s h.0 subject a.j (givenAs a.given) y.result c.before.before.before.before.before.before.before.Cell-at.result k
+      call-gives s h.0 subject a.j (given_as a.given) y.result c.before.before.before.before.before.before.before.Cell-at.result k
       c.before.before.before.before.before.wide2.result c.before.before.before.before.base-owner.result a.who c.before.before.before.before.before.wide2.ensures.0
       c.before.before.before.before.base-owner.ensures.0 w c.before.before.before.if1.false c.before.before.if2.false (done c.give.new.0 c.give.result)
       (c.give.ensures.0 subject w),

@@ -6,7 +6,7 @@ use borrow.Author.Rules.{rules}
 use Rattle.state_record.specs.Whole.{whole}
 use Rattle.request_common.specs.Served.{done}
 use Rattle.request_answer.proofs.Laws.{keeps_same, step-unknown-subject, step-not-held, step-goes}
-use Rattle.request_answer.specs.Given.{givenAs}
+use Rattle.request_answer.specs.Given.{given_as}
 use Rattle.request_answer.proofs.answer_step.Statement.{statement}
 use Rattle.request_answer.proofs.answer_step.Tie as tie
 
@@ -19,7 +19,7 @@ refused-requires c κs = search rules
 returns : tie.Need-returns
 returns c = (
   let a = c.before.before.before.before.before.args in let s = whole a.types.now a.s in let f = c.before.before.before.before.before.ranges in
-      step-unknown-subject s c.before.before.before.before.before.requires a.subject a.call (givenAs a.given)
+      step-unknown-subject s c.before.before.before.before.before.requires a.subject a.call (given_as a.given)
       (sym (rw (to_z-of_z f.subject) at (c.before.before.is-subject.ensures s refl)) ∙ not-true c.before.before.is-subject.result c.before.if1.true)
       (done a.types.now c.refused.result) (ap (done a.types.now) c.refused.ensures),
   keeps_same c.before.before.before.before.before.args.given c.before.before.before.before.before.args.types.now,
@@ -38,7 +38,7 @@ returns-2 : tie.Need-returns-2
 returns-2 c = (
   let a = c.before.before.before.before.before.before.before.before.before.args in let s = whole a.types.now a.s in
       let f = c.before.before.before.before.before.before.before.before.before.ranges in
-      step-not-held s c.before.before.before.before.before.before.before.before.before.requires a.subject a.call (givenAs a.given)
+      step-not-held s c.before.before.before.before.before.before.before.before.before.requires a.subject a.call (given_as a.given)
       (sym (rw (to_z-of_z f.subject) at (c.before.before.before.before.before.before.is-subject.ensures s refl)) ∙ not-false
       c.before.before.before.before.before.before.is-subject.result c.before.before.before.before.before.if1.false)
       c.before.before.before.index-of2.result (rw (to_z-of_z f.call) at c.before.before.before.index-of2.ensures) c.before.if2.true
@@ -53,7 +53,7 @@ returns-3 : tie.Need-returns-3
 returns-3 c = (
   let a = c.before.before.before.before.before.before.before.before.before.before.args in let s = whole a.types.now a.s in
       let f = c.before.before.before.before.before.before.before.before.before.before.ranges in
-      step-goes s c.before.before.before.before.before.before.before.before.before.before.requires a.subject a.call (givenAs a.given)
+      step-goes s c.before.before.before.before.before.before.before.before.before.before.requires a.subject a.call (given_as a.given)
       (sym (rw (to_z-of_z f.subject) at (c.before.before.before.before.before.before.before.is-subject.ensures s refl)) ∙ not-false
       c.before.before.before.before.before.before.before.is-subject.result c.before.before.before.before.before.before.if1.false)
       c.before.before.before.before.index-of2.result (rw (to_z-of_z f.call) at c.before.before.before.before.index-of2.ensures) c.before.before.if2.false

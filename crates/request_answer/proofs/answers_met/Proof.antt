@@ -4,8 +4,8 @@ use Prim.Native.Nat.{ℕ, ◌<◌}
 use native.Mathlib.Omega.{arith}
 use borrow.Author.Rules.{rules}
 use Rattle.state_record.specs.Whole.{whole}
-use Rattle.state_places.specs.Behind.{layersIn}
-use Rattle.crossing_targets.specs.Targets.{callLayersIn, targetsIn}
+use Rattle.state_places.specs.Behind.{layers_in}
+use Rattle.crossing_targets.specs.Targets.{call_layers_in, targets_in}
 use Rattle.request_answer.proofs.Laws.{answers-are}
 use Rattle.request_answer.proofs.answers_met.Statement.{statement}
 use Rattle.request_answer.proofs.answers_met.Tie as tie
@@ -41,9 +41,9 @@ returns c = let a = c.before.before.before.before.before.before.before.before.ar
   answers-are s a.j a.x a.c c.before.before.before.before.before.before.before.before.requires.1
       c.before.before.before.before.before.wide.result c.before.before.wide2.result
       c.before.before.before.before.before.wide.ensures.0 c.before.before.wide2.ensures.0
-      (layersIn c.before.before.before.before.layers-of.result) (callLayersIn c.before.before.before.call-layers.result)
+      (layers_in c.before.before.before.before.layers-of.result) (call_layers_in c.before.before.before.call-layers.result)
       c.before.before.before.before.layers-of.ensures.are c.before.before.before.call-layers.ensures.0
-      (targetsIn c.before.Targets-of.result) (targetsIn c.reversed.result) c.before.Targets-of.ensures.0 c.reversed.ensures.0,
+      (targets_in c.before.Targets-of.result) (targets_in c.reversed.result) c.before.Targets-of.ensures.0 c.reversed.ensures.0,
   omega (
     arith,
     c.reversed.ensures.1,

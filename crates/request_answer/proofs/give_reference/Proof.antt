@@ -8,7 +8,7 @@ use Rattle.state_record.specs.Whole.{whole}
 use Rattle.state_record.proofs.Kept.{sound-few}
 use Rattle.request_value.proofs.Sending.{went-counted}
 use Rattle.request_common.specs.Served.{done}
-use Rattle.crossing_targets.specs.Targets.{targetsIn}
+use Rattle.crossing_targets.specs.Targets.{targets_in}
 use Rattle.request_answer.proofs.Laws.{reference-stops, reference-answers}
 use Rattle.request_answer.proofs.give_reference.Statement.{statement}
 use Rattle.request_answer.proofs.give_reference.Tie as tie
@@ -22,7 +22,7 @@ accepted-requires c κs = search rules
 returns : tie.Need-returns
 returns c = let a = c.before.before.before.before.args in let s = whole a.types.now a.s in let k = rw (to_z-of_z c.before.before.before.before.ranges.v) at
     c.before.before.send.ensures in reference-stops s a.j
-    a.r a.v (targetsIn a.targets) (done c.before.before.send.new.0 c.before.before.send.result) k.0
+    a.r a.v (targets_in a.targets) (done c.before.before.send.new.0 c.before.before.send.result) k.0
     (sym c.before.accepted.ensures ∙ not-true c.before.accepted.result c.if1.true)
 
 answered-requires : tie.Need-answered-requires
@@ -35,7 +35,7 @@ answered-requires c κs = let k = c.before.before.send.ensures in (
 
 returns-2 : tie.Need-returns-2
 returns-2 c = let a = c.before.before.before.before.before.args in let s = whole a.types.now a.s in let k = rw (to_z-of_z c.before.before.before.before.before.ranges.v) at
-    c.before.before.before.send.ensures in reference-answers s a.j a.r a.v (targetsIn a.targets)
+    c.before.before.before.send.ensures in reference-answers s a.j a.r a.v (targets_in a.targets)
     (done c.before.before.before.send.new.0 c.before.before.before.send.result) k.0
     (sym c.before.before.accepted.ensures ∙ not-false c.before.before.accepted.result c.before.if1.false) (done c.before.before.before.send.new.0 c.answered.result)
     (c.answered.ensures c.before.before.before.send.new.0 k.0.sound)

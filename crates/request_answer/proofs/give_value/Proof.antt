@@ -9,7 +9,7 @@ use Rattle.state_record.specs.Whole.{whole}
 use Rattle.state_record.proofs.Kept.{sound-few}
 use Rattle.request_common.specs.Served.{done}
 use Rattle.spec_model.specs.Requests.{number, got}
-use Rattle.crossing_targets.specs.Targets.{targetsIn}
+use Rattle.crossing_targets.specs.Targets.{targets_in}
 use Rattle.request_answer.proofs.Laws.{value-wrong-values, value-reference, number-refused, number-answers}
 use Rattle.request_answer.proofs.give_value.Statement.{statement}
 use Rattle.request_answer.proofs.give_value.Tie as tie
@@ -24,7 +24,7 @@ names-ref-requires : tie.Need-names-ref-requires
 names-ref-requires c κs = c.before.before.before.before.before.before.requires.0.checked.limits.types
 
 is-held-requires : tie.Need-is-held-requires
-is-held-requires c κs = c.before.before.before.before.before.before.before.before.requires.0.cellCount
+is-held-requires c κs = c.before.before.before.before.before.before.before.before.requires.0.cell_count
 
 refused-requires : tie.Need-refused-requires
 refused-requires c κs = search rules
@@ -33,7 +33,7 @@ returns : tie.Need-returns
 returns c = λ subject w. let a = c.before.before.before.before.before.before.before.before.before.before.before.args in let s = whole a.types.now a.s in
     value-wrong-values s c.before.before.before.before.before.before.before.before.before.before.before.requires.0 subject a.j a.x a.c
     c.before.before.before.before.before.before.before.before.before.before.before.requires.1 a.a a.v
-    (targetsIn c.before.before.before.before.before.before.answers-met.result) c.before.before.before.before.before.before.answers-met.ensures.0
+    (targets_in c.before.before.before.before.before.before.answers-met.result) c.before.before.before.before.before.before.answers-met.ensures.0
     c.before.before.before.before.names-ref.result c.before.before.before.before.names-ref.ensures c.before.before.before.if1.true
     (sym (rw (to_z-of_z c.before.before.before.before.before.before.before.before.before.before.before.ranges.v) at (c.before.before.is_held_lem.ensures s subject refl w))
     ∙ not-true c.before.before.is_held_lem.result c.before.if2.true) (done a.types.now c.refused.result) (ap (done a.types.now) c.refused.ensures)
@@ -52,7 +52,7 @@ returns-2 : tie.Need-returns-2
 returns-2 c = λ subject w. let a = c.before.before.before.before.before.before.before.before.before.before.before.before.args in let s = whole a.types.now a.s in
     value-reference s c.before.before.before.before.before.before.before.before.before.before.before.before.requires.0 subject a.j a.x a.c
     c.before.before.before.before.before.before.before.before.before.before.before.before.requires.1 a.a a.v
-    (targetsIn c.before.before.before.before.before.before.before.answers-met.result) c.before.before.before.before.before.before.before.answers-met.ensures.0
+    (targets_in c.before.before.before.before.before.before.before.answers-met.result) c.before.before.before.before.before.before.before.answers-met.ensures.0
     c.before.before.before.before.before.names-ref.result c.before.before.before.before.before.names-ref.ensures c.before.before.before.before.if1.true
     (sym (rw (to_z-of_z c.before.before.before.before.before.before.before.before.before.before.before.before.ranges.v) at (c.before.before.before.is_held_lem.ensures s subject refl w))
     ∙ not-false c.before.before.before.is_held_lem.result c.before.before.if2.false) _ c.before.before.before.before.before.before.before.before.before.wide.ensures.0
@@ -69,7 +69,7 @@ returns-3 : tie.Need-returns-3
 returns-3 c = λ subject w. let a = c.before.before.before.before.before.before.before.before.before.before.before.before.args in let s = whole a.types.now a.s in
     number-refused s c.before.before.before.before.before.before.before.before.before.before.before.before.requires.0 subject a.j a.x a.c
     c.before.before.before.before.before.before.before.before.before.before.before.before.requires.1 a.a a.v
-    (targetsIn c.before.before.before.before.before.before.before.answers-met.result)
+    (targets_in c.before.before.before.before.before.before.before.answers-met.result)
     c.before.before.before.before.before.before.before.answers-met.ensures.0 c.before.before.before.before.before.names-ref.result
     c.before.before.before.before.before.names-ref.ensures c.before.before.before.before.if1.false
     c.before.before.pass.result (rw (to_z-of_z c.before.before.before.before.before.before.before.before.before.before.before.before.ranges.v) at
@@ -86,7 +86,7 @@ returns-4 : tie.Need-returns-4
 returns-4 c = λ subject w. let a = c.before.before.before.before.before.before.before.before.before.before.before.before.args in let s = whole a.types.now a.s in
     number-answers s c.before.before.before.before.before.before.before.before.before.before.before.before.requires.0 subject a.j a.x a.c
     c.before.before.before.before.before.before.before.before.before.before.before.before.requires.1 a.a a.v
-    (targetsIn c.before.before.before.before.before.before.before.answers-met.result)
+    (targets_in c.before.before.before.before.before.before.before.answers-met.result)
     c.before.before.before.before.before.before.before.answers-met.ensures.0 c.before.before.before.before.before.names-ref.result
     c.before.before.before.before.before.names-ref.ensures c.before.before.before.before.if1.false
     c.before.before.pass.result (rw (to_z-of_z c.before.before.before.before.before.before.before.before.before.before.before.before.ranges.v) at

@@ -3,9 +3,9 @@ use mathlib.Core.Path.{◌≡◌, sym, ap, ◌∙◌}
 use mathlib.Core.List.{List, []}
 use lib.IntN.{ℤ, pos}
 use lib.ListN.{length, get_or, drop, drop_of_length-le}
-use Rattle.spec_model.specs.Requests.{callRequest}
-use Rattle.state_record.specs.View.{systemIn}
-use Rattle.spec_model.specs.Coded.{byCode}
+use Rattle.spec_model.specs.Requests.{call_request}
+use Rattle.state_record.specs.View.{system_in}
+use Rattle.spec_model.specs.Coded.{by_code}
 use Rattle.request_operands.proofs.Words.{is_read, all-behind}
 use Rattle.request_by_code.proofs.Laws.{refuses, call_none, call-is}
 use native.Mathlib.Omega.{arith}
@@ -27,7 +27,7 @@ returns : tie.Need-returns
 returns c =
     let a = c.before.before.args in let s = whole a.types.now a.s in
     let w = a.ops.now in
-    refuses s (byCode 2 w) (done a.types.now c.refused.result) c.before.before.requires (call_none (systemIn s) w c.before.if1.true) (ap (done a.types.now) c.refused.ensures)
+    refuses s (by_code 2 w) (done a.types.now c.refused.result) c.before.before.requires (call_none (system_in s) w c.before.if1.true) (ap (done a.types.now) c.refused.ensures)
 
 shared-slice-copy-out-call-step : tie.Need-shared-slice-copy-out-call-step
 shared-slice-copy-out-call-step c = search rules
@@ -45,9 +45,9 @@ call-step-requires : tie.Need-call-step-requires
 call-step-requires c κs = search rules
 
 returns-2 : tie.Need-returns-2
-returns-2 c = let a = c.before.before.before.before.before.before.before.before.args in let s = whole a.types.now a.s in let w = a.ops.now in let m = systemIn s in
+returns-2 c = let a = c.before.before.before.before.before.before.before.before.args in let s = whole a.types.now a.s in let w = a.ops.now in let m = system_in s in
     step-as
-    (sym (ap (callRequest m (get_or w 0 (pos 0)) (get_or w 1 (pos 0)) (get_or w 2 (pos 0))) (sym (none-behind w c.before.before.before.before.before.before.if2.true))
+    (sym (ap (call_request m (get_or w 0 (pos 0)) (get_or w 1 (pos 0)) (get_or w 2 (pos 0))) (sym (none-behind w c.before.before.before.before.before.before.if2.true))
     ∙ call-is m w c.before.before.before.before.before.before.before.if1.false))
     (rw (
       is_read w 0 c.before.before.before.before.call-step-arg2.given,
@@ -77,8 +77,8 @@ call-step-requires-2 : tie.Need-call-step-requires-2
 call-step-requires-2 c κs = search rules
 
 returns-3 : tie.Need-returns-3
-returns-3 c = let a = c.before.before.before.before.before.before.before.before.args in let s = whole a.types.now a.s in let w = a.ops.now in let m = systemIn s in
-    step-as (sym (ap (callRequest m (get_or w 0 (pos 0)) (get_or w 1 (pos 0)) (get_or w 2 (pos 0))) (all-behind w 3) ∙ call-is m w c.before.before.before.before.before.before.before.if1.false))
+returns-3 c = let a = c.before.before.before.before.before.before.before.before.args in let s = whole a.types.now a.s in let w = a.ops.now in let m = system_in s in
+    step-as (sym (ap (call_request m (get_or w 0 (pos 0)) (get_or w 1 (pos 0)) (get_or w 2 (pos 0))) (all-behind w 3) ∙ call-is m w c.before.before.before.before.before.before.before.if1.false))
     (rw (
       is_read w 0 c.before.before.before.before.call-step-arg7.given,
       is_read w 1 c.before.before.before.call-step-arg8.given,

@@ -1,6 +1,6 @@
 -- One operand too many or too few, or the step.
-use Rattle.state_record.specs.View.{systemIn}
-use Rattle.spec_model.specs.Coded.{byCode}
+use Rattle.state_record.specs.View.{system_in}
+use Rattle.spec_model.specs.Coded.{by_code}
 use Rattle.request_operands.proofs.Words.{is_read}
 use Rattle.request_by_code.proofs.Laws.{refuses, move-none, move-is}
 use borrow.Author.Rules.{rules}
@@ -18,7 +18,7 @@ returns : tie.Need-returns
 returns c =
     let a = c.before.before.args in let s = whole a.types.now a.s in
     let w = a.ops.now in
-    refuses s (byCode 1 w) (done a.types.now c.refused.result) c.before.before.requires (move-none (systemIn s) w c.before.if1.true) (ap (done a.types.now) c.refused.ensures)
+    refuses s (by_code 1 w) (done a.types.now c.refused.result) c.before.before.requires (move-none (system_in s) w c.before.if1.true) (ap (done a.types.now) c.refused.ensures)
 
 shared-slice-copy-out-move-step : tie.Need-shared-slice-copy-out-move-step
 shared-slice-copy-out-move-step c = search rules
@@ -37,7 +37,7 @@ move-step-requires c κs = search rules
 
 returns-2 : tie.Need-returns-2
 returns-2 c = let a = c.before.before.before.before.before.before.before.args in let s = whole a.types.now a.s in let w = a.ops.now in
-    step-as (sym (move-is (systemIn s) w c.before.before.before.before.before.before.if1.false))
+    step-as (sym (move-is (system_in s) w c.before.before.before.before.before.before.if1.false))
     (rw (
       is_read w 0 c.before.before.before.before.move-step-arg2.given,
       is_read w 1 c.before.before.before.move-step-arg3.given,

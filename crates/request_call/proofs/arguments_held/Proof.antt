@@ -10,15 +10,15 @@ use borrow.Author.Tests.{not-true, not-false}
 use borrow.Author.Rules.{rules}
 use Rattle.state_record.specs.Whole.{whole}
 use Rattle.spec_model.specs.Basics.{named}
-use Rattle.state_record.specs.View.{systemIn}
+use Rattle.state_record.specs.View.{system_in}
 use Rattle.request_value.proofs.Laws.{none_left, some_left, value-next}
 use Rattle.request_call.proofs.Laws.{HeldRest, held-over, held-fails, held_next, held_whole}
-use Rattle.request_value.specs.Sent.{argumentsOf}
+use Rattle.request_value.specs.Sent.{arguments_of}
 use Rattle.request_call.proofs.arguments_held.Statement.{statement}
 use Rattle.request_call.proofs.arguments_held.Tie as tie
 
 abbrev invariant-loop : tie.invariant-loop
-invariant-loop types s who x vs n i₀ i = (i ≤ length vs) × ((subject : ℤ) → named subject ≡ who → HeldRest (systemIn (whole types s)) subject (argumentsOf x) vs i)
+invariant-loop types s who x vs n i₀ i = (i ≤ length vs) × ((subject : ℤ) → named subject ≡ who → HeldRest (system_in (whole types s)) subject (arguments_of x) vs i)
 
 abbrev decreases-loop : tie.decreases-loop
 decreases-loop types s who x vs n i₀ i = length vs - i
@@ -31,7 +31,7 @@ argument-in-requires c κs = search rules
 
 returns : tie.Need-returns invariant-loop decreases-loop
 returns c = λ subject w. let a = c.before.before.before.before.args in let s = whole a.types.now a.s in
-    held-over (systemIn s) subject (argumentsOf a.x) a.vs.now c.before.before.before.loop.i
+    held-over (system_in s) subject (arguments_of a.x) a.vs.now c.before.before.before.loop.i
     (c.before.before.before.loop.invariant.1 subject w) _ _ (value-next a.vs.now c.before.before.before.loop.i c.before.before.loop-test.true)
     (none_left a.x c.before.before.before.loop.i c.before.argument-in.result c.before.argument-in.ensures c.if1.true)
 
@@ -50,7 +50,7 @@ argument-held-requires c κs = c.before.before.before.before.before.requires
 returns-2 : tie.Need-returns-2 invariant-loop decreases-loop
 returns-2 c = λ subject w. let a = c.before.before.before.before.before.before.before.args in let s = whole a.types.now a.s in
     let l = c.before.before.before.before.before.before.loop in let v = get_or
-    a.vs.now l.i (pos 0) in held-fails (systemIn s) subject (argumentsOf a.x) a.vs.now l.i (l.invariant.1 subject w) _ _
+    a.vs.now l.i (pos 0) in held-fails (system_in s) subject (arguments_of a.x) a.vs.now l.i (l.invariant.1 subject w) _ _
     (value-next a.vs.now l.i c.before.before.before.before.before.loop-test.true) _ _ (some_left a.x l.i c.before.before.before.before.argument-in.result
     c.before.before.before.before.argument-in.ensures c.before.before.before.if1.false) c.before.argument-held.result
     (rw (to_z-of_z {w = w64} {z = v} (record { sfits = c.before.before.argument-held-arg.given })) at (c.before.argument-held.ensures subject w))
@@ -69,7 +69,7 @@ loop-again c =
     let v = get_or a.vs.now l.i (pos 0) in
     let y = c.before.argument-held in (
       omega (arith, c.before.before.before.before.before.loop-test.true),
-      λ subject w. held_next (systemIn s) subject (argumentsOf a.x) a.vs.now l.i (l.invariant.1 subject w) _ _
+      λ subject w. held_next (system_in s) subject (arguments_of a.x) a.vs.now l.i (l.invariant.1 subject w) _ _
           (value-next a.vs.now l.i c.before.before.before.before.before.loop-test.true) _ _
           (some_left a.x l.i c.before.before.before.before.argument-in.result c.before.before.before.before.argument-in.ensures c.before.before.before.if1.false)
           y.result
@@ -81,7 +81,7 @@ argument-in-requires-2 c κs = search rules
 
 returns-3 : tie.Need-returns-3 invariant-loop decreases-loop
 returns-3 c = λ subject w. let a = c.before.before.before.args in let s = whole a.types.now a.s in let l = c.before.before.loop in
-    held_whole (systemIn s) subject a.x a.vs.now l.i
+    held_whole (system_in s) subject a.x a.vs.now l.i
     (l.invariant.1 subject w) l.invariant.0 c.before.loop-test.false c.argument-in2.result c.argument-in2.ensures
 
 pub arguments-held-spec : {M : Type 1} → statement M

@@ -6,15 +6,15 @@ use borrow.Author.Rules.{rules}
 use Rattle.state_record.specs.Whole.{whole}
 use Rattle.state_record.proofs.Kept.{sound-room}
 use Rattle.request_common.specs.Served.{done}
-use Rattle.state_places.specs.Behind.{layersIn}
-use Rattle.crossing_targets.specs.Targets.{callLayersIn}
+use Rattle.state_places.specs.Behind.{layers_in}
+use Rattle.crossing_targets.specs.Targets.{call_layers_in}
 use Rattle.request_call.proofs.Calling.{call-byte, place_here, place-low, call-layers-met, type-low, through-stops, through-room, through-adds}
-use Rattle.request_value.specs.Sent.{argumentsOf}
+use Rattle.request_value.specs.Sent.{arguments_of}
 use Rattle.request_call.proofs.call_through.Statement.{statement}
 use Rattle.request_call.proofs.call_through.Tie as tie
 
 cell-at-requires : tie.Need-cell-at-requires
-cell-at-requires c κs = omega (arith, c.requires.3, c.requires.0.cellCount)
+cell-at-requires c κs = omega (arith, c.requires.3, c.requires.0.cell_count)
 
 wide-requires : tie.Need-wide-requires
 wide-requires c κs = search rules
@@ -57,10 +57,10 @@ returns c =
     let z = c.before.before.before.before.before.before.before.before.before.wide in
     let l = c.before.before.before.before.before.before.layers-of in
     let w = c.before.before.before.before.call-layers in
-    through-stops s h.0 a.who a.k a.m (argumentsOf a.x) a.vs.now z.result (place_here s h.0 a.k h.3 y.result (y.ensures.1 h.3) z.result
+    through-stops s h.0 a.who a.k a.m (arguments_of a.x) a.vs.now z.result (place_here s h.0 a.k h.3 y.result (y.ensures.1 h.3) z.result
     z.ensures.0)
-    c.before.before.before.before.before.before.before.base-owner.result c.before.before.before.before.before.before.before.base-owner.ensures.0 (callLayersIn w.result)
-    (call-layers-met s h.0 a.k h.3 y.result (y.ensures.1 h.3) z.result z.ensures.0 (layersIn l.result) (callLayersIn w.result) l.ensures.are w.ensures.0)
+    c.before.before.before.before.before.before.before.base-owner.result c.before.before.before.before.before.before.before.base-owner.ensures.0 (call_layers_in w.result)
+    (call-layers-met s h.0 a.k h.3 y.result (y.ensures.1 h.3) z.result z.ensures.0 (layers_in l.result) (call_layers_in w.result) l.ensures.are w.ensures.0)
     (done c.before.before.before.send-arguments.new.0 c.before.before.before.send-arguments.result) c.before.before.before.send-arguments.ensures
     (sym c.before.accepted.ensures ∙ not-true c.before.accepted.result c.if1.true)
 
@@ -82,11 +82,11 @@ add-call-requires c κs =
     let z = c.before.before.before.before.before.before.before.before.before.before.wide in
     let l = c.before.before.before.before.before.before.before.layers-of in
     let w = c.before.before.before.before.before.call-layers in
-    let g = through-room s h.0 a.who a.k a.m (argumentsOf a.x) a.vs.now z.result (place_here s h.0 a.k h.3 y.result (y.ensures.1 h.3) z.result
+    let g = through-room s h.0 a.who a.k a.m (arguments_of a.x) a.vs.now z.result (place_here s h.0 a.k h.3 y.result (y.ensures.1 h.3) z.result
     z.ensures.0)
     c.before.before.before.before.before.before.before.before.base-owner.result c.before.before.before.before.before.before.before.before.base-owner.ensures.0
-    (callLayersIn w.result)
-    (call-layers-met s h.0 a.k h.3 y.result (y.ensures.1 h.3) z.result z.ensures.0 (layersIn l.result) (callLayersIn w.result) l.ensures.are w.ensures.0)
+    (call_layers_in w.result)
+    (call-layers-met s h.0 a.k h.3 y.result (y.ensures.1 h.3) z.result z.ensures.0 (layers_in l.result) (call_layers_in w.result) l.ensures.are w.ensures.0)
     (done c.before.before.before.before.send-arguments.new.0 c.before.before.before.before.send-arguments.result)
     c.before.before.before.before.send-arguments.ensures h.1 h.2 h.3 h.4 in
     let b = call-byte (whole c.before.before.before.before.send-arguments.new.0 c.before.before.before.before.send-arguments.result.state) g.0 a.who
@@ -101,18 +101,18 @@ returns-2 c =
     let z = c.before.before.before.before.before.before.before.before.before.before.before.wide in
     let l = c.before.before.before.before.before.before.before.before.layers-of in
     let w = c.before.before.before.before.before.before.call-layers in
-    let g = through-room s h.0 a.who a.k a.m (argumentsOf a.x) a.vs.now z.result (place_here s h.0 a.k h.3 y.result (y.ensures.1 h.3) z.result
+    let g = through-room s h.0 a.who a.k a.m (arguments_of a.x) a.vs.now z.result (place_here s h.0 a.k h.3 y.result (y.ensures.1 h.3) z.result
     z.ensures.0)
     c.before.before.before.before.before.before.before.before.before.base-owner.result
-    c.before.before.before.before.before.before.before.before.before.base-owner.ensures.0 (callLayersIn w.result)
-    (call-layers-met s h.0 a.k h.3 y.result (y.ensures.1 h.3) z.result z.ensures.0 (layersIn l.result) (callLayersIn w.result) l.ensures.are w.ensures.0)
+    c.before.before.before.before.before.before.before.before.before.base-owner.ensures.0 (call_layers_in w.result)
+    (call-layers-met s h.0 a.k h.3 y.result (y.ensures.1 h.3) z.result z.ensures.0 (layers_in l.result) (call_layers_in w.result) l.ensures.are w.ensures.0)
     (done c.before.before.before.before.before.send-arguments.new.0 c.before.before.before.before.before.send-arguments.result)
     c.before.before.before.before.before.send-arguments.ensures h.1 h.2 h.3 h.4 in
-    through-adds s h.0 a.who a.k a.m (argumentsOf a.x) a.vs.now z.result (place_here s h.0 a.k h.3 y.result (y.ensures.1 h.3) z.result
+    through-adds s h.0 a.who a.k a.m (arguments_of a.x) a.vs.now z.result (place_here s h.0 a.k h.3 y.result (y.ensures.1 h.3) z.result
     z.ensures.0)
     c.before.before.before.before.before.before.before.before.before.base-owner.result c.before.before.before.before.before.before.before.before.before.base-owner.ensures.0
-    (callLayersIn w.result)
-    (call-layers-met s h.0 a.k h.3 y.result (y.ensures.1 h.3) z.result z.ensures.0 (layersIn l.result) (callLayersIn w.result) l.ensures.are w.ensures.0)
+    (call_layers_in w.result)
+    (call-layers-met s h.0 a.k h.3 y.result (y.ensures.1 h.3) z.result z.ensures.0 (layers_in l.result) (call_layers_in w.result) l.ensures.are w.ensures.0)
     (done c.before.before.before.before.before.send-arguments.new.0 c.before.before.before.before.before.send-arguments.result)
     c.before.before.before.before.before.send-arguments.ensures
     (sym c.before.before.before.accepted.ensures ∙ not-false c.before.before.before.accepted.result c.before.before.if1.false)

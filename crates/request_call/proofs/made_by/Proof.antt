@@ -8,7 +8,7 @@ use native.Mathlib.Omega.{arith}
 use borrow.Author.Rules.{rules}
 use borrow.Author.Tests.{eq-eqb, ne_eqb}
 use Rattle.spec_model.specs.Basics.{from}
-use Rattle.spec_model.specs.Requests.{madeBy}
+use Rattle.spec_model.specs.Requests.{made_by}
 use Rattle.state_record.proofs.Kept.{called, calls-from, ended, made-last}
 use Rattle.request_call.proofs.made_by.Statement.{statement}
 use Rattle.request_call.proofs.made_by.Tie as tie
@@ -17,7 +17,7 @@ next : (j : ℕ) (f : ℕ → ℕ) → f (j + 1) ≡ f (suc j)
 next j f = ap f (add-one j)
 
 abbrev invariant-loop : tie.invariant-loop
-invariant-loop who js n made₀ j₀ made j = (j ≤ n) × (n ≡ js.count) × (made ≤ j) × (made ≡ madeBy who (from j 0 (called js)))
+invariant-loop who js n made₀ j₀ made j = (j ≤ n) × (n ≡ js.count) × (made ≤ j) × (made ≡ made_by who (from j 0 (called js)))
 
 abbrev decreases-loop : tie.decreases-loop
 decreases-loop who js n made₀ j₀ made j = n - j
@@ -46,16 +46,16 @@ loop-less c = search rules
 
 loop-again : tie.Need-loop-preserved invariant-loop decreases-loop
 loop-again c = let a = c.before.before.before.before.args in let l = c.before.before.before.loop in let x = c.before.wide.ensures.0 in
-    let m = made-last (called a.t1) a.who l.j in let k = next l.j (λ (n : ℕ). madeBy a.who (from n 0 (called a.t1))) in
-    let count : Bool → ℕ = λ b. madeBy a.who (from l.j 0 (called a.t1)) + cond b 1 0 in ⊎_elim
+    let m = made-last (called a.t1) a.who l.j in let k = next l.j (λ (n : ℕ). made_by a.who (from n 0 (called a.t1))) in
+    let count : Bool → ℕ = λ b. made_by a.who (from l.j 0 (called a.t1)) + cond b 1 0 in ⊎_elim
     (λ w. let e = m ∙ ap count (eq-eqb a.who _ (sym w.0.taken ∙ x)) in (omega arith, refl, omega (arith, l.invariant.2, w.1), omega (arith, l.invariant.3, w.1, e, k)))
     (λ w. let e = m ∙ ap count (ne_eqb a.who _ (λ z. w.0.left (x ∙ sym z))) in (omega arith, refl, omega (arith, l.invariant.2, w.1), omega (arith, l.invariant.3, w.1, e, k)))
     c.if1.branch
 
 returns : tie.Need-returns invariant-loop decreases-loop
 returns c = let js = c.before.before.args.t1 in let l = c.before.loop in
-    l.invariant.3 ∙ ap (λ (n : ℕ). madeBy c.before.before.args.who (from n 0 (called js))) (ended l.j js.count l.invariant.0 c.loop-test.false)
-    ∙ sym (ap (madeBy c.before.before.args.who) (calls-from js))
+    l.invariant.3 ∙ ap (λ (n : ℕ). made_by c.before.before.args.who (from n 0 (called js))) (ended l.j js.count l.invariant.0 c.loop-test.false)
+    ∙ sym (ap (made_by c.before.before.args.who) (calls-from js))
 
 pub made-by-spec : {M : Type 1} → statement M
 made-by-spec =

@@ -4,7 +4,7 @@ use mathlib.Core.Path.{refl, sym, ◌∙◌}
 use native.Mathlib.Omega.{arith}
 use borrow.Author.Tests.{not-true, not-false}
 use borrow.Author.Rules.{rules}
-use Rattle.spec_model.specs.Refusals.{unknownSubject, notHeld, notCallable}
+use Rattle.spec_model.specs.Refusals.{unknown_subject, not_held, not_callable}
 use Rattle.state_record.specs.Whole.{whole}
 use Rattle.request_call.proofs.Calling.{planned-as, planned-refuses, asked-unknown-subject, who-named, asked-not-held, cell-here, asked-not-callable, asked-goes}
 use Rattle.request_call.proofs.plan_call.Statement.{statement}
@@ -18,7 +18,7 @@ stops-requires c κs = search rules
 
 returns : tie.Need-returns
 returns c = let a = c.before.before.before.before.before.args in let s = whole a.types.now a.s in let f = c.before.before.before.before.before.ranges in
-    planned-refuses s a.arguments.now unknownSubject (omega arith)
+    planned-refuses s a.arguments.now unknown_subject (omega arith)
     (asked-unknown-subject s c.before.before.before.before.before.requires a.subject a.cell a.method a.arguments.now
     (sym (rw (to_z-of_z f.subject) at (c.before.before.is-subject.ensures s refl)) ∙ not-true c.before.before.is-subject.result c.before.if1.true))
     c.stops.result c.stops.ensures
@@ -27,7 +27,7 @@ index-of-requires : tie.Need-index-of-requires
 index-of-requires c κs = search rules
 
 is-held-requires : tie.Need-is-held-requires
-is-held-requires c κs = c.before.before.before.before.before.requires.cellCount
+is-held-requires c κs = c.before.before.before.before.before.requires.cell_count
 
 stops-requires-2 : tie.Need-stops-requires-2
 stops-requires-2 c κs = search rules
@@ -40,7 +40,7 @@ returns-2 c =
     let who = rw (to_z-of_z f.subject) at c.before.before.before.index_of.ensures in
     let w = who-named s c.before.before.before.before.before.before.before.before.requires a.subject a.cell a.method a.arguments.now known
     c.before.before.before.index_of.result who in
-    planned-refuses s a.arguments.now notHeld (omega arith)
+    planned-refuses s a.arguments.now not_held (omega arith)
     (asked-not-held s c.before.before.before.before.before.before.before.before.requires a.subject a.cell a.method a.arguments.now known
     c.before.before.before.index_of.result who
     (sym (rw (to_z-of_z f.cell) at (c.before.before.is_held_lem.ensures s a.subject refl w.0)) ∙ not-true c.before.before.is_held_lem.result c.before.if2.true))
@@ -65,7 +65,7 @@ returns-3 c =
     known c.before.before.before.before.before.before.before.index_of.result who in
     let has = sym (rw (to_z-of_z f.cell) at (c.before.before.before.before.before.before.is_held_lem.ensures s a.subject refl w.0))
     ∙ not-false c.before.before.before.before.before.before.is_held_lem.result c.before.before.before.before.before.if2.false in
-    planned-refuses s a.arguments.now notCallable (omega arith)
+    planned-refuses s a.arguments.now not_callable (omega arith)
     (asked-not-callable s c.before.before.before.before.before.before.before.before.before.before.before.before.requires a.subject a.cell a.method a.arguments.now known
     c.before.before.before.before.before.before.before.index_of.result who has
     c.before.before.before.before.index-of2.result (rw (to_z-of_z f.cell) at c.before.before.before.before.index-of2.ensures)

@@ -3,7 +3,7 @@ use mathlib.Core.Path.{sym, ◌∙◌}
 use native.Mathlib.Omega.{arith}
 use borrow.Author.Tests.{not-true, not-false}
 use borrow.Author.Rules.{rules}
-use Rattle.spec_model.specs.Refusals.{notCallable, wrongValues, callsFull}
+use Rattle.spec_model.specs.Refusals.{not_callable, wrong_values, calls_full}
 use Rattle.state_record.specs.Whole.{whole}
 use Rattle.state_record.proofs.Kept.{sound-few}
 use Rattle.request_call.proofs.Calling.{type-here, type-low, planned-as, planned-refuses, held-not-callable, held-wrong-values, held-calls-full, held-goes}
@@ -11,7 +11,7 @@ use Rattle.request_call.proofs.plan_held.Statement.{statement}
 use Rattle.request_call.proofs.plan_held.Tie as tie
 
 cell-at-requires : tie.Need-cell-at-requires
-cell-at-requires c κs = omega (arith, c.requires.2, c.requires.0.cellCount)
+cell-at-requires c κs = omega (arith, c.requires.2, c.requires.0.cell_count)
 
 wide-requires : tie.Need-wide-requires
 wide-requires c κs = search rules
@@ -29,7 +29,7 @@ stops-requires c κs = search rules
 returns : tie.Need-returns
 returns c = λ subject w.
     let a = c.before.before.before.before.before.before.before.args in let s = whole a.types.now a.s in let h = c.before.before.before.before.before.before.before.requires in let y = c.before.before.before.before.before.before.Cell-at in let z = c.before.before.before.before.wide in let x = c.before.before.before.method-at in
-    planned-refuses s a.vs.now notCallable (omega arith)
+    planned-refuses s a.vs.now not_callable (omega arith)
     (held-not-callable s subject a.k a.m a.vs.now z.result (type-here s h.0 a.k h.2 y.result (y.ensures.1 h.2) z.result z.ensures.0)
     x.result x.ensures c.before.if1.true) c.stops.result c.stops.ensures
 
@@ -42,7 +42,7 @@ stops-requires-2 c κs = search rules
 returns-2 : tie.Need-returns-2
 returns-2 c = λ subject w.
     let a = c.before.before.before.before.before.before.before.before.before.args in let s = whole a.types.now a.s in let h = c.before.before.before.before.before.before.before.before.before.requires in let y = c.before.before.before.before.before.before.before.before.Cell-at in let z = c.before.before.before.before.before.before.wide in let x = c.before.before.before.before.before.method-at in let v = c.before.before.arguments-held in
-    planned-refuses s a.vs.now wrongValues (omega arith)
+    planned-refuses s a.vs.now wrong_values (omega arith)
     (held-wrong-values s subject a.k a.m a.vs.now z.result (type-here s h.0 a.k h.2 y.result (y.ensures.1 h.2) z.result z.ensures.0)
     x.result x.ensures c.before.before.before.if1.false (sym (v.ensures subject w) ∙ not-true v.result c.before.if2.true)) c.stops2.result c.stops2.ensures
 
@@ -56,7 +56,7 @@ returns-3 : tie.Need-returns-3
 returns-3 c = λ subject w.
     let a = c.before.before.before.before.before.before.before.before.before.before.before.args in let s = whole a.types.now a.s in let h = c.before.before.before.before.before.before.before.before.before.before.before.requires in let y = c.before.before.before.before.before.before.before.before.before.before.Cell-at in
     let z = c.before.before.before.before.before.before.before.before.wide in let x = c.before.before.before.before.before.before.before.method-at in let v = c.before.before.before.before.arguments-held in let n = c.before.before.made_by in
-    planned-refuses s a.vs.now callsFull (omega arith)
+    planned-refuses s a.vs.now calls_full (omega arith)
     (held-calls-full s subject a.k a.m a.vs.now z.result (type-here s h.0 a.k h.2 y.result (y.ensures.1 h.2) z.result z.ensures.0)
     x.result x.ensures c.before.before.before.before.before.if1.false (sym (v.ensures subject w) ∙ not-false v.result c.before.before.before.if2.false)
     a.who w n.result n.ensures c.before.if3.true) c.stops3.result c.stops3.ensures

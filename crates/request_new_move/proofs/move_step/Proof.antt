@@ -6,9 +6,9 @@ use native.Mathlib.Omega.{arith}
 use mir.Facts.{to_z-of_z}
 use borrow.Author.Rules.{rules}
 use Rattle.spec_model.specs.Basics.{names, named}
-use Rattle.spec_model.specs.Requests.{held, isSheetRef}
+use Rattle.spec_model.specs.Requests.{held, is_sheet_ref}
 use Rattle.state_record.specs.Whole.{Whole, whole}
-use Rattle.state_record.specs.View.{systemIn}
+use Rattle.state_record.specs.View.{system_in}
 use Rattle.table_check_links.proofs.Steps as test
 use Rattle.request_common.proofs.Laws.{step-refuses, step-as, subject-at, sheet-at, held_at}
 use Rattle.request_new_move.proofs.Laws.{move-unknown-subject, move-receiver, move-not-held, move-unknown-type, move-sends, move-goes}
@@ -23,13 +23,13 @@ state c = whole c.args.types.now c.args.s
 abbrev start : tie.Else1 → tie.Start
 start c = c.before.before.before
 
-known : (c : tie.Else1) → let b = start c in names b.args.subject (systemIn (state b)).table.subjects ≡ true
+known : (c : tie.Else1) → let b = start c in names b.args.subject (system_in (state b)).table.subjects ≡ true
 known c = let b = start c in test.passed _ _ (rw (to_z-of_z b.fits.subject) at (c.before.is-subject.ensures (state b) refl)) c.if1.false
 
 abbrev second : tie.Else2 → tie.Else1
 second c = c.before.before
 
-met : (c : tie.Else2) → let b = start (second c) in names b.args.receiver (systemIn (state b)).table.subjects ≡ true
+met : (c : tie.Else2) → let b = start (second c) in names b.args.receiver (system_in (state b)).table.subjects ≡ true
 met c = let b = start (second c) in test.passed _ _ (rw (to_z-of_z b.fits.receiver) at (c.before.is-subject2.ensures (state b) refl)) c.if2.false
 
 abbrev asked : tie.After-index-of → tie.Else2
@@ -42,7 +42,7 @@ who c = let b = start (second (asked c)) in
 abbrev third : tie.Else3 → tie.After-index-of
 third c = c.before.before
 
-holds : (c : tie.Else3) → let b = start (second (asked (third c))) in held (systemIn (state b)) b.args.subject b.args.cell ≡ true
+holds : (c : tie.Else3) → let b = start (second (asked (third c))) in held (system_in (state b)) b.args.subject b.args.cell ≡ true
 holds c = let b = start (second (asked (third c))) in
     test.passed _ _ (rw (to_z-of_z b.fits.cell) at (c.before.is_held_lem.ensures (state b) b.args.subject refl (sym (who (third c)).0))) c.if3.false
 
@@ -59,7 +59,7 @@ at-known c = second (at-met c)
 abbrev begun : tie.Else4 → tie.Start
 begun c = start (at-known c)
 
-target : (c : tie.Else4) → let b = begun c in isSheetRef (systemIn (state b)).table b.args.to ≡ true
+target : (c : tie.Else4) → let b = begun c in is_sheet_ref (system_in (state b)).table b.args.to ≡ true
 target c = let b = begun c in test.passed _ _ (rw (to_z-of_z b.fits.to) at (c.before.is-sheet-ref.ensures (state b) refl refl)) c.if4.false
 
 -- the operands as indices
@@ -101,7 +101,7 @@ index-of-requires : tie.Need-index-of-requires
 index-of-requires c κs = search rules
 
 is-held-requires : tie.Need-is-held-requires
-is-held-requires c κs = (start (second (asked c))).requires.cellCount
+is-held-requires c κs = (start (second (asked c))).requires.cell_count
 
 refused-requires-3 : tie.Need-refused-requires-3
 refused-requires-3 c κs = search rules
@@ -132,7 +132,7 @@ index-of-requires-4 : tie.Need-index-of-requires-4
 index-of-requires-4 c κs = search rules
 
 cell-at-requires : tie.Need-cell-at-requires
-cell-at-requires c κs = omega (arith, (cell c).1, (begun c.before.before.before).requires.cellCount)
+cell-at-requires c κs = omega (arith, (cell c).1, (begun c.before.before.before).requires.cell_count)
 
 wide-requires : tie.Need-wide-requires
 wide-requires c κs = search rules

@@ -6,11 +6,11 @@ use native.Mathlib.Omega.{arith}
 use mir.Facts.{to_z-of_z}
 use borrow.Author.Rules.{rules}
 use Rattle.spec_model.specs.Basics.{names, named}
-use Rattle.spec_model.specs.Requests.{isSheetRef}
+use Rattle.spec_model.specs.Requests.{is_sheet_ref}
 use Rattle.state_record.specs.Whole.{Whole, whole}
-use Rattle.state_record.specs.View.{systemIn}
+use Rattle.state_record.specs.View.{system_in}
 use Rattle.table_check_links.proofs.Steps as test
-use Rattle.request_common.specs.Served.{isSheetClass}
+use Rattle.request_common.specs.Served.{is_sheet_class}
 use Rattle.request_common.proofs.Laws.{step-refuses, step-as, subject-at, sheet-at}
 use Rattle.request_new_move.proofs.Laws.{new-unknown-subject, new-class, new-type, new-places-full, new-sends, new-goes}
 use Rattle.request_new_move.proofs.new_step.Statement.{statement}
@@ -24,19 +24,19 @@ state c = whole c.args.types.now c.args.s
 abbrev start : tie.Else1 → tie.Start
 start c = c.before.before.before
 
-known : (c : tie.Else1) → let b = start c in names b.args.subject (systemIn (state b)).table.subjects ≡ true
+known : (c : tie.Else1) → let b = start c in names b.args.subject (system_in (state b)).table.subjects ≡ true
 known c = let b = start c in test.passed _ _ (rw (to_z-of_z b.fits.subject) at (c.before.is-subject.ensures (state b) refl)) c.if1.false
 
 abbrev second : tie.Else2 → tie.Else1
 second c = c.before.before.before
 
-ty : (c : tie.Else2) → let b = start (second c) in isSheetClass (systemIn (state b)).table b.args.class ≡ true
+ty : (c : tie.Else2) → let b = start (second c) in is_sheet_class (system_in (state b)).table b.args.class ≡ true
 ty c = let b = start (second c) in test.passed _ _ (rw (to_z-of_z b.fits.class) at (c.before.is-sheet-class.ensures (state b) refl refl)) c.if2.false
 
 abbrev third : tie.Else3 → tie.Else2
 third c = c.before.before.before
 
-target : (c : tie.Else3) → let b = start (second (third c)) in isSheetRef (systemIn (state b)).table b.args.to ≡ true
+target : (c : tie.Else3) → let b = start (second (third c)) in is_sheet_ref (system_in (state b)).table b.args.to ≡ true
 target c = let b = start (second (third c)) in test.passed _ _ (rw (to_z-of_z b.fits.to) at (c.before.is-sheet-ref.ensures (state b) refl refl)) c.if3.false
 
 abbrev fourth : tie.Else4 → tie.Else3

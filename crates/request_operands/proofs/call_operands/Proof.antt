@@ -8,7 +8,7 @@ use mir.Val.{to_z}
 use lib.ListN.{length, take, length-set}
 use native.Mathlib.Omega.{arith}
 use borrow.Author.Rules.{rules}
-use Rattle.spec_model.specs.Table.{maxArguments}
+use Rattle.spec_model.specs.Table.{max_arguments}
 use Rattle.request_operands.proofs.Words.{is_read}
 use Rattle.request_operands.proofs.Listing.{listed-all, listed-cut, listed_next}
 use Rattle.request_operands.proofs.call_operands.Statement.{statement}
@@ -16,10 +16,10 @@ use Rattle.request_operands.proofs.call_operands.Tie as tie
 
 abbrev invariant-loop : tie.invariant-loop
 invariant-loop subject cell method arguments items₀ i₀ items i =
-    (i ≤ suc maxArguments) × (i ≤ length arguments) × (length items ≡ 3 + suc maxArguments) × (take (3 + i) items ≡ to_z w64 subject ∷ to_z w64 cell ∷ to_z w64 method ∷ take i arguments)
+    (i ≤ suc max_arguments) × (i ≤ length arguments) × (length items ≡ 3 + suc max_arguments) × (take (3 + i) items ≡ to_z w64 subject ∷ to_z w64 cell ∷ to_z w64 method ∷ take i arguments)
 
 abbrev decreases-loop : tie.decreases-loop
-decreases-loop subject cell method arguments items₀ i₀ items i = suc maxArguments - i
+decreases-loop subject cell method arguments items₀ i₀ items i = suc max_arguments - i
 
 array-set-from-items : tie.Need-array-set-from-items invariant-loop decreases-loop
 array-set-from-items c = search rules
@@ -64,7 +64,7 @@ loop-less c = search rules
 
 loop-again : tie.Need-loop-preserved invariant-loop decreases-loop
 loop-again c = let a = c.before.before.before.before.args in let p = c.before.before.before.loop in let w = a.arguments.now in
-    let more : p.i ≤ maxArguments = omega (arith, c.before.before.loop-test.true) in
+    let more : p.i ≤ max_arguments = omega (arith, c.before.before.loop-test.true) in
     rw (is_read w p.i c.items.given) (
       omega arith,
       omega arith,

@@ -3,8 +3,8 @@ use mir.Facts.{to_z-of_z}
 use mir.Syntax.{w64}
 use mir.Val.{SFits}
 use mathlib.Core.Path.{ap, sym, subst, ◌∙◌}
-use Rattle.request_common.specs.Served.{outcomeOf}
-use Rattle.request_results.specs.States.{outcomeNumber, outcomeValues}
+use Rattle.request_common.specs.Served.{outcome_of}
+use Rattle.request_results.specs.States.{outcome_number, outcome_values}
 use Rattle.request_results.specs.Stored.{Small}
 use borrow.Author.Rules.{rules}
 use Rattle.request_results.proofs.outcome_out.Statement.{statement}
@@ -37,22 +37,22 @@ returns c = search rules
 returns-2 : tie.Need-returns-2
 returns-2 c =
     let e = c.before.before.before.a2.given.1 in
-    (ap (λ x. outcomeNumber (outcomeOf x)) (sym e), c.put-pair.ensures ∙ ap (λ x. outcomeValues c.before.before.before.before.before.args.values.now (outcomeOf x)) (sym e))
+    (ap (λ x. outcome_number (outcome_of x)) (sym e), c.put-pair.ensures ∙ ap (λ x. outcome_values c.before.before.before.before.before.args.values.now (outcome_of x)) (sym e))
 
 returns-3 : tie.Need-returns-3
 returns-3 c =
     let e = c.before.before.before.a3.given.1 in
     let h = rw e at c.before.before.before.before.before.well-formed.0 in
     let f : SFits w64 c.before.before.before.a3.given.0.0 = record { sfits = h.1.1.1.1.0.1 } in (
-      ap (λ x. outcomeNumber (outcomeOf x)) (sym e),
+      ap (λ x. outcome_number (outcome_of x)) (sym e),
       (rw (to_z-of_z f) at c.put-number.ensures)
-          ∙ ap (λ x. outcomeValues c.before.before.before.before.before.args.values.now (outcomeOf x)) (sym e),
+          ∙ ap (λ x. outcome_values c.before.before.before.before.before.args.values.now (outcome_of x)) (sym e),
     )
 
 returns-4 : tie.Need-returns-4
 returns-4 c =
     let e = c.before.before.enum_told.given.1 in
-    (ap (λ x. outcomeNumber (outcomeOf x)) (sym e), c.put-nothing.ensures ∙ ap (λ x. outcomeValues c.before.before.before.before.args.values.now (outcomeOf x)) (sym e))
+    (ap (λ x. outcome_number (outcome_of x)) (sym e), c.put-nothing.ensures ∙ ap (λ x. outcome_values c.before.before.before.before.args.values.now (outcome_of x)) (sym e))
 
 pub outcome-out-spec : {M : Type 1} → statement M
 outcome-out-spec =

@@ -1,11 +1,11 @@
 -- A request with fewer words than it says, or one by its code and its operands, which are a part of the list.
 use Prim.Native.Nat.{◌+◌, ◌-◌}
 use mathlib.Core.Path.{◌≡◌, refl, ap, sym}
-use Rattle.state_record.specs.View.{systemIn}
-use Rattle.request_by_code.specs.Coded.{serveAsked}
+use Rattle.state_record.specs.View.{system_in}
+use Rattle.request_by_code.specs.Coded.{serve_asked}
 use Rattle.request_operands.proofs.Words.{is_read}
 use Rattle.request_by_code.proofs.Laws.{refuses}
-use Rattle.request_words.specs.Found.{askedAt}
+use Rattle.request_words.specs.Found.{asked_at}
 use Rattle.request_words.proofs.Words.{asked-none, asked_is}
 use native.Mathlib.Omega.{arith}
 use borrow.Author.Rules.{rules}
@@ -29,7 +29,7 @@ refused-requires c κs = search rules
 
 returns : tie.Need-returns
 returns c = let a = c.before.before.before.args in let s = whole a.types.now a.s in let w = a.words.now in
-    refuses s (askedAt w a.at) (done a.types.now c.refused.result) c.before.before.before.requires.0
+    refuses s (asked_at w a.at) (done a.types.now c.refused.result) c.before.before.before.requires.0
     (asked-none w a.at c.before.before.before.requires.1 c.before.before.operands.result c.before.before.operands.ensures c.before.if1.true)
     (ap (done a.types.now) c.refused.ensures)
 
@@ -66,7 +66,7 @@ returns-2 c =
     let n = c.before.before.before.before.before.operands.result in
     let e : a.at + 2 + n - (a.at + 2) ≡ n = omega arith in
     step-as
-    (sym (ap (serveAsked (systemIn s))
+    (sym (ap (serve_asked (system_in s))
     (asked_is w a.at c.before.before.before.before.before.before.requires.1 n c.before.before.before.before.before.operands.ensures c.before.before.before.before.if1.false _
     (is_read w a.at c.before.before.before.code.given) (a.at + 2) (a.at + 2 + n - (a.at + 2)) refl e))) c.serve.ensures
 

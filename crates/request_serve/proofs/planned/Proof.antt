@@ -4,11 +4,11 @@ use Prim.Native.Nat.{ℕ}
 use lib.IntN.{pos}
 use lib.ListN.{get_or}
 use borrow.Author.Rules.{rules}
-use Rattle.spec_model.specs.Coded.{byCode}
-use Rattle.spec_model.specs.Requests.{callRequest}
+use Rattle.spec_model.specs.Coded.{by_code}
+use Rattle.spec_model.specs.Requests.{call_request}
 use Rattle.state_record.specs.Whole.{whole}
-use Rattle.state_record.specs.View.{systemIn}
-use Rattle.request_by_code.specs.Coded.{serveAsked}
+use Rattle.state_record.specs.View.{system_in}
+use Rattle.request_by_code.specs.Coded.{serve_asked}
 use Rattle.request_operands.proofs.Words.{is_read, all-behind}
 use Rattle.request_by_code.proofs.Laws.{call-is}
 use Rattle.request_serve.proofs.Laws.{known-open, known-call}
@@ -49,10 +49,10 @@ plan-call-requires : tie.Need-plan-call-requires
 plan-call-requires c κs = search rules
 
 returns-3 : tie.Need-returns-3
-returns-3 c = let a = c.before.before.before.before.before.before.before.args in let s = whole a.types.now a.s in let w = a.ops.now in let m = systemIn s in
+returns-3 c = let a = c.before.before.before.before.before.before.before.args in let s = whole a.types.now a.s in let w = a.ops.now in let m = system_in s in
     known-call s _ _ _
-    (ap (λ (n : ℕ). serveAsked m (byCode n w)) c.before.before.before.before.before.before.if1.false
-    ∙ sym (ap (callRequest m (get_or w 0 (pos 0)) (get_or w 1 (pos 0)) (get_or w 2 (pos 0))) (all-behind w 3) ∙ call-is m w c.before.before.before.before.before.if2.false))
+    (ap (λ (n : ℕ). serve_asked m (by_code n w)) c.before.before.before.before.before.before.if1.false
+    ∙ sym (ap (call_request m (get_or w 0 (pos 0)) (get_or w 1 (pos 0)) (get_or w 2 (pos 0))) (all-behind w 3) ∙ call-is m w c.before.before.before.before.before.if2.false))
     c.plan-call.result
     (rw (
       is_read w 0 c.before.before.before.before.plan-call-arg.given,

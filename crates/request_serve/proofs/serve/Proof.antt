@@ -2,7 +2,7 @@
 use mathlib.Core.Path.{refl, sym, ap, subst}
 use Prim.Native.Nat.{ℕ}
 use borrow.Author.Rules.{rules}
-use Rattle.spec_model.specs.Coded.{byCode}
+use Rattle.spec_model.specs.Coded.{by_code}
 use Rattle.table_check_links.proofs.Steps.{refused, passed}
 use Rattle.state_record.specs.Whole.{whole}
 use Rattle.state_record.proofs.Kept.{sound-room}
@@ -23,7 +23,7 @@ refused-requires c κs = search rules
 
 returns : tie.Need-returns
 returns c = let a = c.before.before.before.before.args in let check = c.before.before.state-fits in let b = a.types.now in
-    refused-serves (whole b a.s) (byCode a.code a.ops.now) (refused check.result _ check.ensures c.before.if1.true)
+    refused-serves (whole b a.s) (by_code a.code a.ops.now) (refused check.result _ check.ensures c.before.if1.true)
     (done b c.refused.result) (ap (done b) c.refused.ensures)
 
 type-bytes-requires : tie.Need-type-bytes-requires
@@ -38,7 +38,7 @@ serve-nothing-requires c κs = let a = c.before.before.before.before.before.befo
 
 returns-2 : tie.Need-returns-2
 returns-2 c = let a = c.before.before.before.before.before.before.before.before.before.args in
-    subst (λ (n : ℕ). ServesAsked (whole a.types.now a.s) (byCode n a.ops.now) (done c.serve-nothing.new.0 c.serve-nothing.result))
+    subst (λ (n : ℕ). ServesAsked (whole a.types.now a.s) (by_code n a.ops.now) (done c.serve-nothing.new.0 c.serve-nothing.result))
     (sym (c.before.before.before.is-nothing.ensures c.before.before.if2.true).0) c.serve-nothing.ensures
 
 planned-requires : tie.Need-planned-requires
@@ -53,7 +53,7 @@ returns-3 c =
     let a = c.before.before.before.before.before.before.before.before.before.before.before.before.args in let b = a.types.now in let check = c.before.before.before.before.before.before.before.before.before.before.state-fits in
     let taken = passed check.result _ check.ensures c.before.before.before.before.before.before.before.before.before.if1.false in
     let sound = accepted-sound (whole b a.s) taken c.before.before.before.before.before.before.before.type-bytes.ensures in
-    kept-serves b b a.s (byCode a.code a.ops.now) c.refused2.result sound taken
+    kept-serves b b a.s (by_code a.code a.ops.now) c.refused2.result sound taken
     (refuses sound (c.before.before.before.planned.ensures.stops c.before.if3.true) (ap (done b) c.refused2.ensures)) refl
 
 serve-saved-requires : tie.Need-serve-saved-requires
@@ -80,7 +80,7 @@ returns-5 c =
     let taken = passed check.result _ check.ensures c.before.before.before.before.before.before.before.before.before.before.if1.false in
     let sound = accepted-sound (whole b a.s) taken c.before.before.before.before.before.before.before.before.type-bytes.ensures in
     let low = q.ensures.fits c.before.before.if3.false c.before.if4.false in
-    kept-serves b b a.s (byCode a.code a.ops.now) c.add-call.result sound taken
+    kept-serves b b a.s (by_code a.code a.ops.now) c.add-call.result sound taken
     (step-as (q.ensures.adds c.before.before.if3.false c.before.if4.false) (c.add-call.ensures b sound low.0 low.2 low.3)) refl
 
 pub serve-spec : {M : Type 1} → statement M

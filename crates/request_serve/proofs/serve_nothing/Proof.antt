@@ -1,9 +1,9 @@
 -- The step keeps every byte of the types (`Keeps`).
 use mathlib.Core.Path.{sym}
 use borrow.Author.Rules.{rules}
-use Rattle.spec_model.specs.Coded.{byCode}
+use Rattle.spec_model.specs.Coded.{by_code}
 use Rattle.state_record.specs.Whole.{whole}
-use Rattle.state_record.specs.View.{systemIn}
+use Rattle.state_record.specs.View.{system_in}
 use Rattle.request_common.proofs.Laws.{step-as}
 use Rattle.request_operands.proofs.Words.{is_read}
 use Rattle.request_by_code.proofs.Laws.{nothing_is}
@@ -22,8 +22,8 @@ answer-step-requires c κs = search rules
 
 returns : tie.Need-returns
 returns c = let a = c.before.before.before.before.args in let b = a.types.now in let s = whole b a.s in let w = a.ops.now in let h = c.before.before.before.before.requires in
-    kept-serves b c.answer-step.new.0 a.s (byCode 3 w) c.answer-step.result h.0 h.1
-    (step-as (sym (nothing_is (systemIn s) w h.2))
+    kept-serves b c.answer-step.new.0 a.s (by_code 3 w) c.answer-step.result h.0 h.1
+    (step-as (sym (nothing_is (system_in s) w h.2))
     (rw (is_read w 0 c.before.before.answer-step-arg2.given, is_read w 1 c.before.answer-step-arg3.given) at c.answer-step.ensures.0))
     c.answer-step.ensures.1
 

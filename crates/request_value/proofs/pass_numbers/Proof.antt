@@ -8,17 +8,17 @@ use lib.ListN.{length, get_or, drop_of_length-le}
 use lib.IntN.{pos}
 use borrow.Author.Rules.{rules}
 use Rattle.state_record.specs.Whole.{Whole}
-use Rattle.state_record.specs.View.{systemIn}
-use Rattle.crossing_targets.specs.Targets.{callLayersIn, targetsIn}
+use Rattle.state_record.specs.View.{system_in}
+use Rattle.crossing_targets.specs.Targets.{call_layers_in, targets_in}
 use Rattle.request_value.proofs.Sending.{NumbersRest, numbers-over, numbers-end, numbers-stop, numbers-next, number_of, passed-of}
 use Rattle.request_value.proofs.Laws.{none_left, some_left, value-next}
-use Rattle.request_value.specs.Sent.{argumentsOf}
+use Rattle.request_value.specs.Sent.{arguments_of}
 use Rattle.request_value.proofs.pass_numbers.Statement.{statement}
 use Rattle.request_value.proofs.pass_numbers.Tie as tie
 
 abbrev invariant-loop : tie.invariant-loop
 invariant-loop types cs w m x vs n i₀ i =
-    (i ≤ length vs) × ((s : Whole) (r : ℕ) → s.types ≡ types → s.counts ≡ cs → NumbersRest (systemIn s) r (callLayersIn w) m (argumentsOf x) vs i)
+    (i ≤ length vs) × ((s : Whole) (r : ℕ) → s.types ≡ types → s.counts ≡ cs → NumbersRest (system_in s) r (call_layers_in w) m (arguments_of x) vs i)
 
 abbrev decreases-loop : tie.decreases-loop
 decreases-loop types cs w m x vs n i₀ i = length vs - i
@@ -31,7 +31,7 @@ argument-in-requires c κs = search rules
 
 returns : tie.Need-returns invariant-loop decreases-loop
 returns c = λ s r t n. let a = c.before.before.before.before.args in let l = c.before.before.before.loop in
-    numbers-over (systemIn s) r (callLayersIn a.w) a.m (argumentsOf a.x) a.vs.now l.i (l.invariant.1 s r t n)
+    numbers-over (system_in s) r (call_layers_in a.w) a.m (arguments_of a.x) a.vs.now l.i (l.invariant.1 s r t n)
     (none_left a.x l.i c.before.argument-in.result c.before.argument-in.ensures c.if1.true)
 
 sub-names-ref : tie.Need-overflow-sub-names-ref invariant-loop decreases-loop
@@ -64,13 +64,13 @@ returns-3 c = λ s r t n.
     let a = c.before.before.before.before.before.before.before.before.before.before.args in let l = c.before.before.before.before.before.before.before.before.before.loop in
     let v = get_or a.vs.now l.i (pos 0) in
     let passed = rw (to_z-of_z {w = w64} {z = v} (record { sfits = c.before.before.pass-arg.given })) at c.before.pass.ensures in (
-      numbers-stop (systemIn s) r (callLayersIn a.w) a.m (argumentsOf a.x) a.vs.now l.i (l.invariant.1 s r t n) _
+      numbers-stop (system_in s) r (call_layers_in a.w) a.m (arguments_of a.x) a.vs.now l.i (l.invariant.1 s r t n) _
           (some_left a.x l.i c.before.before.before.before.before.before.before.argument-in.result
           c.before.before.before.before.before.before.before.argument-in.ensures c.before.before.before.before.before.before.if1.false)
           v (value-next a.vs.now l.i c.before.before.before.before.before.before.before.before.loop-test.true)
           (number_of s a.types.now a.c t n _ c.before.before.before.before.before.names-ref.result c.before.before.before.before.before.names-ref.ensures
           c.before.before.before.before.if2.false) c.before.pass.result
-          (passed-of s a.types.now a.c t n c.before.pass.result a.m l.i v (callLayersIn a.w) (targetsIn c.before.before.before.Targets-of.result)
+          (passed-of s a.types.now a.c t n c.before.pass.result a.m l.i v (call_layers_in a.w) (targets_in c.before.before.before.Targets-of.result)
           c.before.before.before.Targets-of.ensures.0 passed)
           c.if3.true,
       c.if3.true,
@@ -93,20 +93,20 @@ loop-again c = (
       let a = c.before.before.before.before.before.before.before.before.before.before.args in let l = c.before.before.before.before.before.before.before.before.before.loop in
       let v = get_or a.vs.now l.i (pos 0) in
       let passed = rw (to_z-of_z {w = w64} {z = v} (record { sfits = c.before.before.pass-arg.given })) at c.before.pass.ensures in
-      numbers-next (systemIn s) r (callLayersIn a.w) a.m (argumentsOf a.x) a.vs.now l.i (l.invariant.1 s r t n) _
+      numbers-next (system_in s) r (call_layers_in a.w) a.m (arguments_of a.x) a.vs.now l.i (l.invariant.1 s r t n) _
       (some_left a.x l.i c.before.before.before.before.before.before.before.argument-in.result
       c.before.before.before.before.before.before.before.argument-in.ensures c.before.before.before.before.before.before.if1.false)
       v (value-next a.vs.now l.i c.before.before.before.before.before.before.before.before.loop-test.true)
       (number_of s a.types.now a.c t n _ c.before.before.before.before.before.names-ref.result c.before.before.before.before.before.names-ref.ensures
       c.before.before.before.before.if2.false) c.before.pass.result
-      (passed-of s a.types.now a.c t n c.before.pass.result a.m l.i v (callLayersIn a.w) (targetsIn c.before.before.before.Targets-of.result)
+      (passed-of s a.types.now a.c t n c.before.pass.result a.m l.i v (call_layers_in a.w) (targets_in c.before.before.before.Targets-of.result)
       c.before.before.before.Targets-of.ensures.0 passed)
       c.if3.false,
 )
 
 returns-4 : tie.Need-returns-4 invariant-loop decreases-loop
 returns-4 c = λ s r t n. let a = c.before.before.args in let l = c.before.loop in
-    numbers-end (systemIn s) r (callLayersIn a.w) a.m (argumentsOf a.x) a.vs.now l.i (l.invariant.1 s r t n) (drop_of_length-le a.vs.now {i = l.i} c.loop-test.false)
+    numbers-end (system_in s) r (call_layers_in a.w) a.m (arguments_of a.x) a.vs.now l.i (l.invariant.1 s r t n) (drop_of_length-le a.vs.now {i = l.i} c.loop-test.false)
 
 pub pass-numbers-spec : {M : Type 1} → statement M
 pass-numbers-spec =

@@ -6,7 +6,7 @@ use Rattle.state_record.specs.Whole.{whole}
 use Rattle.request_common.specs.Served.{done}
 use Rattle.request_common.proofs.Laws.{ty-byte, place_byte}
 use Rattle.spec_model.specs.Basics.{named}
-use Rattle.crossing_targets.specs.Targets.{targetsIn}
+use Rattle.crossing_targets.specs.Targets.{targets_in}
 use Rattle.request_value.proofs.Sending.{any-cell, send-ready, send-refused, send-arrives, send-adds}
 use Rattle.request_value.proofs.send.Statement.{statement}
 use Rattle.request_value.proofs.send.Tie as tie
@@ -27,7 +27,7 @@ carry-requires c κs =
     let g = send-ready s h.0 a.r (named a.v) c.before.before.before.before.before.before.before.named-cell.result
     (rw (to_z-of_z c.before.before.before.before.before.before.before.before.ranges.v) at
     c.before.before.before.before.before.before.before.named-cell.ensures) (any-cell s h.0 h.1 h.2 (named a.v))
-    (targetsIn a.targets) c.before.wide.result c.wide2.result c.before.wide.ensures.0 c.wide2.ensures.0 (record { checked = h.0.checked; long = h.0.long })
+    (targets_in a.targets) c.before.wide.result c.wide2.result c.before.wide.ensures.0 c.wide2.ensures.0 (record { checked = h.0.checked; long = h.0.long })
     in (g.0, g.1, h.4)
 
 refused-requires : tie.Need-refused-requires
@@ -40,7 +40,7 @@ returns c =
     send-refused s h.0 a.r (named a.v) c.before.before.before.before.before.before.before.before.before.before.before.named-cell.result
     (rw (to_z-of_z c.before.before.before.before.before.before.before.before.before.before.before.before.ranges.v) at
     c.before.before.before.before.before.before.before.before.before.before.before.named-cell.ensures) (any-cell s h.0 h.1 h.2 (named a.v))
-    (targetsIn a.targets) c.before.before.before.before.before.wide.result c.before.before.before.before.wide2.result
+    (targets_in a.targets) c.before.before.before.before.before.wide.result c.before.before.before.before.wide2.result
     c.before.before.before.before.before.wide.ensures.0 c.before.before.before.before.wide2.ensures.0 c.before.before.before.carry.new.0
     c.before.before.before.carry.result c.before.before.before.carry.ensures.0 c.before.before.before.carry.ensures.1
     c.before.if1.true (done c.before.before.before.carry.new.0 c.refused.result) (ap (done c.before.before.before.carry.new.0) c.refused.ensures)
@@ -52,7 +52,7 @@ add-cell-requires c κs =
     let w = send-arrives s h.0 a.r (named a.v) c.before.before.before.before.before.before.before.before.before.before.named-cell.result
     (rw (to_z-of_z c.before.before.before.before.before.before.before.before.before.before.before.ranges.v) at
     c.before.before.before.before.before.before.before.before.before.before.named-cell.ensures) (any-cell s h.0 h.1 h.2 (named a.v))
-    (targetsIn a.targets) c.before.before.before.before.wide.result c.before.before.before.wide2.result c.before.before.before.before.wide.ensures.0
+    (targets_in a.targets) c.before.before.before.before.wide.result c.before.before.before.wide2.result c.before.before.before.before.wide.ensures.0
     c.before.before.before.wide2.ensures.0 c.before.before.carry.new.0 c.before.before.carry.result c.before.before.carry.ensures.0
     c.before.before.carry.ensures.1
     c.if1.false in
@@ -65,14 +65,14 @@ returns-2 c =
     send-adds s h.0 a.r (named a.v) c.before.before.before.before.before.before.before.before.before.before.before.named-cell.result
     (rw (to_z-of_z c.before.before.before.before.before.before.before.before.before.before.before.before.ranges.v) at
     c.before.before.before.before.before.before.before.before.before.before.before.named-cell.ensures) (any-cell s h.0 h.1 h.2 (named a.v))
-    (targetsIn a.targets) c.before.before.before.before.before.wide.result c.before.before.before.before.wide2.result
+    (targets_in a.targets) c.before.before.before.before.before.wide.result c.before.before.before.before.wide2.result
     c.before.before.before.before.before.wide.ensures.0 c.before.before.before.before.wide2.ensures.0 c.before.before.before.carry.new.0
     c.before.before.before.carry.result c.before.before.before.carry.ensures.0 c.before.before.before.carry.ensures.1
     c.before.if1.false (done c.before.before.before.carry.new.0 c.add-cell.result) (c.add-cell.ensures a.types.now c.before.before.before.carry.new.0
     (send-arrives s h.0 a.r (named a.v) c.before.before.before.before.before.before.before.before.before.before.before.named-cell.result
     (rw (to_z-of_z c.before.before.before.before.before.before.before.before.before.before.before.before.ranges.v) at
     c.before.before.before.before.before.before.before.before.before.before.before.named-cell.ensures) (any-cell s h.0 h.1 h.2 (named a.v))
-    (targetsIn a.targets) c.before.before.before.before.before.wide.result c.before.before.before.before.wide2.result c.before.before.before.before.before.wide.ensures.0
+    (targets_in a.targets) c.before.before.before.before.before.wide.result c.before.before.before.before.wide2.result c.before.before.before.before.before.wide.ensures.0
     c.before.before.before.before.wide2.ensures.0 c.before.before.before.carry.new.0 c.before.before.before.carry.result c.before.before.before.carry.ensures.0
     c.before.before.before.carry.ensures.1
     c.before.if1.false))

@@ -5,7 +5,7 @@ use native.Mathlib.Omega.{arith}
 use borrow.Author.Rules.{rules}
 use Rattle.state_record.specs.Whole.{whole}
 use Rattle.request_common.specs.Served.{done}
-use Rattle.crossing_targets.specs.Targets.{callLayersIn, targetsIn}
+use Rattle.crossing_targets.specs.Targets.{call_layers_in, targets_in}
 use Rattle.request_value.proofs.Sending.{argument-sent, number-refused, number-passes}
 use Rattle.request_value.proofs.send_argument.Statement.{statement}
 use Rattle.request_value.proofs.send_argument.Tie as tie
@@ -28,8 +28,8 @@ send-requires c κs = let h = c.before.before.before.before.before.before.before
 
 returns : tie.Need-returns
 returns c = let a = c.before.before.before.before.before.before.before.before.args in let s = whole a.types.now a.s in argument-sent s
-    c.before.before.before.before.before.before.before.before.requires.0 a.r (callLayersIn a.w) a.m a.i a.a a.v
-    (targetsIn c.before.before.before.before.before.Targets-of.result) c.before.before.before.before.before.Targets-of.ensures.0
+    c.before.before.before.before.before.before.before.before.requires.0 a.r (call_layers_in a.w) a.m a.i a.a a.v
+    (targets_in c.before.before.before.before.before.Targets-of.result) c.before.before.before.before.before.Targets-of.ensures.0
     c.before.before.before.names-ref.result c.before.before.before.names-ref.ensures c.before.before.if1.true (done c.send.new.0 c.send.result)
     (rw (to_z-of_z c.before.before.before.before.before.before.before.before.ranges.v) at c.send.ensures)
 
@@ -45,8 +45,8 @@ refused-requires c κs = search rules
 
 returns-2 : tie.Need-returns-2
 returns-2 c = let a = c.before.before.before.before.before.before.before.before.before.before.args in let s = whole a.types.now a.s in number-refused s
-    c.before.before.before.before.before.before.before.before.before.before.requires.0 a.r (callLayersIn a.w) a.m a.i a.a a.v
-    (targetsIn c.before.before.before.before.before.before.before.Targets-of.result)
+    c.before.before.before.before.before.before.before.before.before.before.requires.0 a.r (call_layers_in a.w) a.m a.i a.a a.v
+    (targets_in c.before.before.before.before.before.before.before.Targets-of.result)
     c.before.before.before.before.before.before.before.Targets-of.ensures.0
     c.before.before.before.before.before.names-ref.result c.before.before.before.before.before.names-ref.ensures
     c.before.before.before.before.if1.false c.before.before.pass.result (rw (to_z-of_z
@@ -55,8 +55,8 @@ returns-2 c = let a = c.before.before.before.before.before.before.before.before.
 
 returns-3 : tie.Need-returns-3
 returns-3 c = let a = c.before.before.before.before.before.before.before.before.before.args in let s = whole a.types.now a.s in number-passes s
-    c.before.before.before.before.before.before.before.before.before.requires.0 a.r (callLayersIn a.w) a.m a.i a.a a.v
-    (targetsIn c.before.before.before.before.before.before.Targets-of.result)
+    c.before.before.before.before.before.before.before.before.before.requires.0 a.r (call_layers_in a.w) a.m a.i a.a a.v
+    (targets_in c.before.before.before.before.before.before.Targets-of.result)
     c.before.before.before.before.before.before.Targets-of.ensures.0
     c.before.before.before.before.names-ref.result c.before.before.before.before.names-ref.ensures c.before.before.before.if1.false
     c.before.pass.result (rw (to_z-of_z c.before.before.before.before.before.before.before.before.before.ranges.v) at c.before.pass.ensures)

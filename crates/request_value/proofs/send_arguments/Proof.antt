@@ -10,28 +10,28 @@ use borrow.Author.Tests.{not-true, not-false}
 use borrow.Author.Rules.{rules}
 use Rattle.state_record.specs.Whole.{whole}
 use Rattle.request_common.specs.Served.{done}
-use Rattle.crossing_targets.specs.Targets.{callLayersIn}
+use Rattle.crossing_targets.specs.Targets.{call_layers_in}
 use Rattle.request_value.proofs.Sending.{Sends, sends-starts, sends-over, sends-end, sends-stop, sends-next, sends-room}
 use Rattle.request_value.proofs.Laws.{none_left, some_left, value-next}
-use Rattle.request_value.specs.Sent.{argumentsOf}
+use Rattle.request_value.specs.Sent.{arguments_of}
 use Rattle.request_value.proofs.send_arguments.Statement.{statement}
 use Rattle.request_value.proofs.send_arguments.Tie as tie
 
 abbrev invariant-loop : tie.invariant-loop
-invariant-loop types₀ r w m x vs n at₀ i₀ types at i = (i ≤ length vs) × Sends (whole types₀ at₀) r (callLayersIn w) m (argumentsOf x) vs (whole types at) i
+invariant-loop types₀ r w m x vs n at₀ i₀ types at i = (i ≤ length vs) × Sends (whole types₀ at₀) r (call_layers_in w) m (arguments_of x) vs (whole types at) i
 
 abbrev decreases-loop : tie.decreases-loop
 decreases-loop types₀ r w m x vs n at₀ i₀ types at i = length vs - i
 
 loop-holds : tie.Need-loop-init invariant-loop decreases-loop
-loop-holds c = let a = c.args in let s = whole a.types.now a.s in (omega arith, sends-starts s a.r (callLayersIn a.w) a.m (argumentsOf a.x) a.vs.now c.requires.0)
+loop-holds c = let a = c.args in let s = whole a.types.now a.s in (omega arith, sends-starts s a.r (call_layers_in a.w) a.m (arguments_of a.x) a.vs.now c.requires.0)
 
 argument-in-requires : tie.Need-argument-in-requires invariant-loop decreases-loop
 argument-in-requires c κs = search rules
 
 returns : tie.Need-returns invariant-loop decreases-loop
 returns c = let a = c.before.before.before.before.args in let s = whole a.types.now a.s in
-    let l = c.before.before.before.loop in sends-over s a.r (callLayersIn a.w) a.m (argumentsOf a.x) a.vs.now
+    let l = c.before.before.before.loop in sends-over s a.r (call_layers_in a.w) a.m (arguments_of a.x) a.vs.now
     (whole l.types l.at) l.i l.invariant.1 (none_left a.x l.i c.before.argument-in.result c.before.argument-in.ensures c.if1.true)
 
 sub-send-argument : tie.Need-overflow-sub-send-argument invariant-loop decreases-loop
@@ -48,7 +48,7 @@ send-argument-requires c κs =
     let a = c.before.before.before.before.before.before.args in let s = whole a.types.now a.s in
     let h = c.before.before.before.before.before.before.requires in
     let l = c.before.before.before.before.before.loop in
-    let g = sends-room s a.r (callLayersIn a.w) a.m (argumentsOf a.x) a.vs.now (whole l.types l.at) l.i l.invariant.1 h.1 h.2 in
+    let g = sends-room s a.r (call_layers_in a.w) a.m (arguments_of a.x) a.vs.now (whole l.types l.at) l.i l.invariant.1 h.1 h.2 in
     (l.invariant.1.sound, g.0, g.1, h.3, h.4)
 
 accepted-requires : tie.Need-accepted-requires invariant-loop decreases-loop
@@ -59,7 +59,7 @@ returns-2 c = let a = c.before.before.before.before.before.before.before.before.
     let l = c.before.before.before.before.before.before.before.before.loop in let v = get_or
     a.vs.now l.i (pos 0) in let k = rw (to_z-of_z {w = w64} {z = v} (record { sfits = c.before.before.before.send-argument-arg2.given })) at
     c.before.before.send-argument.ensures in
-    sends-stop s a.r (callLayersIn a.w) a.m (argumentsOf a.x) a.vs.now (whole l.types l.at) l.i l.invariant.1 _
+    sends-stop s a.r (call_layers_in a.w) a.m (arguments_of a.x) a.vs.now (whole l.types l.at) l.i l.invariant.1 _
     (some_left a.x l.i c.before.before.before.before.before.before.argument-in.result c.before.before.before.before.before.before.argument-in.ensures
     c.before.before.before.before.before.if1.false)
     v (value-next a.vs.now l.i c.before.before.before.before.before.before.before.loop-test.true)
@@ -84,7 +84,7 @@ loop-again c =
     let v = get_or a.vs.now l.i (pos 0) in
     let k = rw (to_z-of_z {w = w64} {z = v} (record { sfits = c.before.before.before.before.send-argument-arg2.given })) at c.before.before.before.send-argument.ensures in (
       omega (arith, c.before.before.before.before.before.before.before.before.loop-test.true),
-      sends-next s a.r (callLayersIn a.w) a.m (argumentsOf a.x) a.vs.now (whole l.types l.at) l.i l.invariant.1 _
+      sends-next s a.r (call_layers_in a.w) a.m (arguments_of a.x) a.vs.now (whole l.types l.at) l.i l.invariant.1 _
           (some_left a.x l.i c.before.before.before.before.before.before.before.argument-in.result c.before.before.before.before.before.before.before.argument-in.ensures
           c.before.before.before.before.before.before.if1.false)
           v (value-next a.vs.now l.i c.before.before.before.before.before.before.before.before.loop-test.true)
@@ -94,7 +94,7 @@ loop-again c =
 
 returns-3 : tie.Need-returns-3 invariant-loop decreases-loop
 returns-3 c = let a = c.before.before.args in let s = whole a.types.now a.s in let l = c.before.loop in
-    sends-end s a.r (callLayersIn a.w) a.m (argumentsOf a.x) a.vs.now (whole l.types l.at) l.i l.invariant.1
+    sends-end s a.r (call_layers_in a.w) a.m (arguments_of a.x) a.vs.now (whole l.types l.at) l.i l.invariant.1
     (drop_of_length-le a.vs.now {i = l.i} c.loop-test.false)
 
 pub send-arguments-spec : {M : Type 1} → statement M

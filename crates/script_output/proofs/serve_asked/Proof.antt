@@ -4,10 +4,10 @@ use lib.Seq.{length-take-le}
 use mathlib.Core.Path.{◌≡◌, sym, ap}
 -- What is no request is refused (`refuses`); else the request is that of the code and the operands.
 use lib.ListN.{take}
-use Rattle.script_read_request.specs.Read.{askedAs}
-use Rattle.spec_model.specs.Coded.{byCode}
-use Rattle.state_record.specs.View.{systemIn}
-use Rattle.request_by_code.specs.Coded.{serveAsked}
+use Rattle.script_read_request.specs.Read.{asked_as}
+use Rattle.spec_model.specs.Coded.{by_code}
+use Rattle.state_record.specs.View.{system_in}
+use Rattle.request_by_code.specs.Coded.{serve_asked}
 use Rattle.request_by_code.proofs.Laws.{refuses}
 use borrow.Author.Tests.{not-true, not-false}
 use borrow.Author.Rules.{rules}
@@ -24,7 +24,7 @@ returns : tie.Need-returns
 returns c =
     let a = c.before.before.before.args in
     let t = a.types.now in
-    refuses (whole t a.s) (askedAs a.q) (done t c.refused.result) c.before.before.before.requires.0 (rw (not-true a.q.right c.before.if1.true))
+    refuses (whole t a.s) (asked_as a.q) (done t c.refused.result) c.before.before.before.requires.0 (rw (not-true a.q.right c.before.if1.true))
     (ap (done t) c.refused.ensures)
 
 array-share-prefix-items : tie.Need-array-share-prefix-items
@@ -42,8 +42,8 @@ returns-2 : tie.Need-returns-2
 returns-2 c =
     let a = c.before.before.before.before.before.before.args in
     let s = whole a.types.now a.s in
-    let q : byCode a.q.code (take a.q.count a.q.items) ≡ askedAs a.q = rw (not-false a.q.right c.before.before.before.before.if1.false) in
-    step-as (sym (ap (serveAsked (systemIn s)) q)) c.serve-coded.ensures
+    let q : by_code a.q.code (take a.q.count a.q.items) ≡ asked_as a.q = rw (not-false a.q.right c.before.before.before.before.if1.false) in
+    step-as (sym (ap (serve_asked (system_in s)) q)) c.serve-coded.ensures
 
 pub serve-asked-spec : {M : Type 1} → statement M
 serve-asked-spec =

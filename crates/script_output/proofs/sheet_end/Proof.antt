@@ -3,7 +3,7 @@ use Rattle.spec_sheet.specs.Lines.{split}
 use lib.ListN.{length, drop}
 use Prim.Native.Nat.{◌-◌, ◌≤◌}
 use mathlib.Core.Path.{◌≡◌}
-use Rattle.script_output.specs.Output.{endFrom, sheetEnd}
+use Rattle.script_output.specs.Output.{end_from, sheet_end}
 use Rattle.script_output.proofs.Rows.{next-within, end-starts, end-cut, end-here, end-next, end-all}
 use Rattle.text_cursor.proofs.Laws.{line-stayed}
 use native.Mathlib.Omega.{arith}
@@ -12,7 +12,7 @@ use Rattle.script_output.proofs.sheet_end.Statement.{statement}
 use Rattle.script_output.proofs.sheet_end.Tie as tie
 
 abbrev invariant-loop : tie.invariant-loop
-invariant-loop s at₀ t7 at = (at ≤ length s) × (sheetEnd s ≡ endFrom at (split (drop at s)))
+invariant-loop s at₀ t7 at = (at ≤ length s) × (sheet_end s ≡ end_from at (split (drop at s)))
 
 abbrev decreases-loop : tie.decreases-loop
 decreases-loop s at₀ t7 at = length s - at

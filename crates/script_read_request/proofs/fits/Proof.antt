@@ -1,19 +1,19 @@
 -- By the code, as it is tested.
 use mathlib.Core.Path.{ap, sym}
 use Prim.Native.Nat.{ℕ}
-use Rattle.script_read_request.specs.Read.{countFits}
+use Rattle.script_read_request.specs.Read.{count_fits}
 use Rattle.script_read_request.proofs.Laws.{fits-four, fits-three, fits-none}
 use Rattle.script_read_request.proofs.fits.Statement.{statement}
 use Rattle.script_read_request.proofs.fits.Tie as tie
 
 returns : tie.Need-returns
-returns c = ap (λ (z : ℕ). countFits z c.before.args.count) (sym c.if1.true)
+returns c = ap (λ (z : ℕ). count_fits z c.before.args.count) (sym c.if1.true)
 
 returns-2 : tie.Need-returns-2
-returns-2 c = ap (λ (z : ℕ). countFits z c.before.before.args.count) (sym c.if2.true)
+returns-2 c = ap (λ (z : ℕ). count_fits z c.before.before.args.count) (sym c.if2.true)
 
 returns-3 : tie.Need-returns-3
-returns-3 c = ap (λ (z : ℕ). countFits z c.before.before.before.args.count) (sym c.if3.true)
+returns-3 c = ap (λ (z : ℕ). count_fits z c.before.before.before.args.count) (sym c.if3.true)
 
 returns-4 : tie.Need-returns-4
 returns-4 c = let a = c.before.before.before.before.before.args in fits-four a.code a.count c.before.if4.true c.if5.true

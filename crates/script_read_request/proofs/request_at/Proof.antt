@@ -6,7 +6,7 @@ use mathlib.Core.Path.{◌≡◌, refl, ◌∙◌}
 use mathlib.Core.List.{[]}
 use Prim.Native.Nat.{◌-◌, ◌≤◌, ◌<◌}
 use lib.ListN.{length, take, drop, length-set}
-use Rattle.script_read_request.specs.Asked.{operands, maxOperands}
+use Rattle.script_read_request.specs.Asked.{operands, max_operands}
 use native.Mathlib.Omega.{arith}
 use borrow.Author.Rules.{rules}
 use Rattle.script_read_request.proofs.request_at.Statement.{statement}
@@ -14,10 +14,10 @@ use Rattle.script_read_request.proofs.request_at.Tie as tie
 
 abbrev invariant-loop : tie.invariant-loop
 invariant-loop l at code i₀ items₀ count₀ i items count =
-    (i ≤ length l) × (count ≤ maxOperands) × (length items ≡ maxOperands) × (operands (maxOperands - count) (take count items) (drop i l) ≡ operands maxOperands [] (drop at l))
+    (i ≤ length l) × (count ≤ max_operands) × (length items ≡ max_operands) × (operands (max_operands - count) (take count items) (drop i l) ≡ operands max_operands [] (drop at l))
 
 abbrev decreases-loop : tie.decreases-loop
-decreases-loop l at code i₀ items₀ count₀ i items count = maxOperands - count
+decreases-loop l at code i₀ items₀ count₀ i items count = max_operands - count
 
 loop-holds : tie.Need-loop-init invariant-loop decreases-loop
 loop-holds c = (c.before.requires, omega arith, refl, refl)

@@ -1,5 +1,5 @@
 -- The line of two numbers: the second is written in the rest behind the first (`line-rest`).
-use Rattle.script_write_outcome.specs.Outcomes.{outcomeText}
+use Rattle.script_write_outcome.specs.Outcomes.{outcome_text}
 use Rattle.text_write.proofs.Laws.{line-rest}
 use native.Mathlib.Omega.{arith}
 use borrow.Author.Rules.{rules}
@@ -37,7 +37,7 @@ same_length : tie.Need-same-length
 same_length c = search rules
 
 returns : tie.Need-returns
-unfolding outcomeText
+unfolding outcome_text
 returns c =
     let n = c.before.before.before.before.before.before.before.before.put-number.ensures in
     let w = c.before.before.write-number.ensures in

@@ -4,12 +4,12 @@ use native.Mathlib.Omega.{arith}
 use lib.ListN.{drop}
 use borrow.Author.Rules.{rules}
 use Rattle.table_record.proofs.Tables.{types-to-length}
-use Rattle.table_record.specs.Store.{types_in, typesTo}
+use Rattle.table_record.specs.Store.{types_in, types_to}
 use Rattle.spec_sheet.specs.Lines.{split}
-use Rattle.spec_sheet.specs.Sheet.{sheetResult}
-use Rattle.sheet_read.proofs.Readings.{done-no, done_ok, on-done, tableWith, types-no, to-ending}
+use Rattle.spec_sheet.specs.Sheet.{sheet_result}
+use Rattle.sheet_read.proofs.Readings.{done-no, done_ok, on-done, table_with, types-no, to-ending}
 use Rattle.sheet_read.proofs.Stored.{sheet-loaded}
-use Rattle.sheet_read.specs.View.{sheetFor}
+use Rattle.sheet_read.specs.View.{sheet_for}
 use Rattle.sheet_read.proofs.after_count.Statement.{statement}
 use Rattle.sheet_read.proofs.after_count.Tie as tie
 
@@ -32,7 +32,7 @@ returns c =
     let a = c9.args in
     let s = a.s.now in
     let t = c6.types-into in
-    λ cs e f. c.refused.ensures ∙ ap (λ z. sheetFor (sheetResult z))
+    λ cs e f. c.refused.ensures ∙ ap (λ z. sheet_for (sheet_result z))
     (types-no a.h cs a.n a.c.at (split (drop a.c.at s)) _ _ (done-no s _ t.result _ t.ensures.0 _ _ c4.t.given.1))
 
 enum-known-t-2 : tie.Need-enum-known-t-2
@@ -62,11 +62,11 @@ returns-2 c =
     let a = c14.args in
     let s = a.s.now in
     let t = c11.types-into in
-    let ts = typesTo a.h.methods a.n a.n (types_in t.new.1.1.1.1.1.0) in
+    let ts = types_to a.h.methods a.n a.n (types_in t.new.1.1.1.1.1.0) in
     let at = c9.t2.given.0.0 in
     let g = c6.last_Line in
-    λ cs e f. c.refused2.ensures ∙ ap (λ z. sheetFor (sheetResult z))
-    (done-no s (tableWith a.h cs a.n ts) g.result _ (g.ensures (tableWith a.h cs a.n ts) refl) _ _ c4.g.given.1
+    λ cs e f. c.refused2.ensures ∙ ap (λ z. sheet_for (sheet_result z))
+    (done-no s (table_with a.h cs a.n ts) g.result _ (g.ensures (table_with a.h cs a.n ts) refl) _ _ c4.g.given.1
     ∙ to-ending a.h cs a.n a.c.at (split (drop a.c.at s)) ts at.at (split (drop at.at s)) (done_ok s ts t.result _ t.ensures.0 at c9.t2.given.1))
 
 returns-3 : tie.Need-returns-3
@@ -79,13 +79,13 @@ returns-3 c =
     let s = a.s.now in
     let t = c7.types-into in
     let b = t.new.1.1.1.1.1.0 in
-    let ts = typesTo a.h.methods a.n a.n (types_in b) in
+    let ts = types_to a.h.methods a.n a.n (types_in b) in
     let at = c5.t2.given.0.0 in
     let g = c2.last_Line in
-    λ cs e f. sheet-loaded (tableWith a.h cs a.n ts) b _ a.n a.h.cats
+    λ cs e f. sheet-loaded (table_with a.h cs a.n ts) b _ a.n a.h.cats
     (on-done t.result at _ c5.t2.given.1 t.ensures.1) e (sym (types-to-length a.h.methods a.n (types_in b) a.n)) (sym f)
-    ∙ ap (λ z. sheetFor (sheetResult z))
-    (done_ok s (tableWith a.h cs a.n ts) g.result _ (g.ensures (tableWith a.h cs a.n ts) refl) _ c.enum_told.given.1
+    ∙ ap (λ z. sheet_for (sheet_result z))
+    (done_ok s (table_with a.h cs a.n ts) g.result _ (g.ensures (table_with a.h cs a.n ts) refl) _ c.enum_told.given.1
     ∙ to-ending a.h cs a.n a.c.at (split (drop a.c.at s)) ts at.at (split (drop at.at s)) (done_ok s ts t.result _ t.ensures.0 at c5.t2.given.1))
 
 pub after-count-spec : {M : Type 1} → statement M

@@ -4,13 +4,13 @@ use Prim.Native.Nat.{ℕ}
 use lib.ListN.{drop}
 use borrow.Author.Rules.{rules}
 use Rattle.spec_sheet.specs.Lines.{bytes, split, line}
-use Rattle.spec_sheet.specs.Sheet.{numberLine}
+use Rattle.spec_sheet.specs.Sheet.{number_line}
 use Rattle.sheet_read_type.proofs.Readings.{got-no, got-ok, got-at-most, step-no, step_ok}
-use Rattle.sheet_read.proofs.Readings.{first_of, afterSubjectsLine, afterMethodsLine, afterCatsLine}
+use Rattle.sheet_read.proofs.Readings.{first_of, after_subjects_line, after_methods_line, after_cats_line}
 use Rattle.sheet_read.proofs.first_lines.Statement.{statement}
 use Rattle.sheet_read.proofs.first_lines.Tie as tie
 use Rattle.sheet_read.specs.View.{first₁}
-use Rattle.spec_model.specs.Table.{maxMethods, maxCategories}
+use Rattle.spec_model.specs.Table.{max_methods, max_categories}
 
 start-requires : tie.Need-start-requires
 start-requires c κs = search rules
@@ -32,7 +32,7 @@ returns c =
     let s = c7.args.s.now in
     let g = c3.next-number in (
       step-no first₁ (first_of 0 (split s)) (got-no (λ n. n) s c5.start.result.at g.result _ g.ensures.0 _ c.before.g.given.1
-          ∙ ap (λ (z : ℕ). line (numberLine (bytes "guide=") 1 1) z (split (drop z s))) c5.start.ensures),
+          ∙ ap (λ (z : ℕ). line (number_line (bytes "guide=") 1 1) z (split (drop z s))) c5.start.ensures),
       tt,
     )
 
@@ -87,8 +87,8 @@ returns-2 c =
     let gn = c6.g2.given.0.0 in
     let gc = c6.g2.given.0.1.0 in
     let ge = got-ok (λ n. n) s c10.start.result.at g.result _ g.ensures.0 gn gc c6.g2.given.1
-    ∙ ap (λ (z : ℕ). line (numberLine (bytes "guide=") 1 1) z (split (drop z s))) c10.start.ensures in
-    (step-no afterSubjectsLine (step_ok first₁ (first_of 0 (split s)) ge) (got-no (λ n. n) s gc.at c3.next-number2.result _ c3.next-number2.ensures.0 _ c.before.u.given.1), tt)
+    ∙ ap (λ (z : ℕ). line (number_line (bytes "guide=") 1 1) z (split (drop z s))) c10.start.ensures in
+    (step-no after_subjects_line (step_ok first₁ (first_of 0 (split s)) ge) (got-no (λ n. n) s gc.at c3.next-number2.result _ c3.next-number2.ensures.0 _ c.before.u.given.1), tt)
 
 returns-3 : tie.Need-returns-3
 returns-3 c =
@@ -104,12 +104,12 @@ returns-3 c =
     let gn = c11.g2.given.0.0 in
     let gc = c11.g2.given.0.1.0 in
     let ge = got-ok (λ n. n) s c15.start.result.at g.result _ g.ensures.0 gn gc c11.g2.given.1
-    ∙ ap (λ (z : ℕ). line (numberLine (bytes "guide=") 1 1) z (split (drop z s))) c15.start.ensures in
+    ∙ ap (λ (z : ℕ). line (number_line (bytes "guide=") 1 1) z (split (drop z s))) c15.start.ensures in
     let u = c8.next-number2 in
     let un = c6.u2.given.0.0 in
     let uc = c6.u2.given.0.1.0 in
     let ue = got-ok (λ n. n) s gc.at u.result _ u.ensures.0 un uc c6.u2.given.1 in (
-      step-no (afterMethodsLine un) (step_ok afterSubjectsLine (step_ok first₁ (first_of 0 (split s)) ge) ue)
+      step-no (after_methods_line un) (step_ok after_subjects_line (step_ok first₁ (first_of 0 (split s)) ge) ue)
           (got-no (λ n. n) s uc.at c3.next-number3.result _ c3.next-number3.ensures.0 _ c.before.m.given.1),
       tt,
     )
@@ -130,7 +130,7 @@ returns-4 c =
     let gn = c16.g2.given.0.0 in
     let gc = c16.g2.given.0.1.0 in
     let ge = got-ok (λ n. n) s c20.start.result.at g.result _ g.ensures.0 gn gc c16.g2.given.1
-    ∙ ap (λ (z : ℕ). line (numberLine (bytes "guide=") 1 1) z (split (drop z s))) c20.start.ensures in
+    ∙ ap (λ (z : ℕ). line (number_line (bytes "guide=") 1 1) z (split (drop z s))) c20.start.ensures in
     let u = c13.next-number2 in
     let un = c11.u2.given.0.0 in
     let uc = c11.u2.given.0.1.0 in
@@ -139,7 +139,7 @@ returns-4 c =
     let mn = c6.m2.given.0.0 in
     let mc = c6.m2.given.0.1.0 in
     let me = got-ok (λ n. n) s uc.at m.result _ m.ensures.0 mn mc c6.m2.given.1 in (
-      step-no (afterCatsLine un mn) (step_ok (afterMethodsLine un) (step_ok afterSubjectsLine (step_ok first₁ (first_of 0 (split s)) ge) ue) me)
+      step-no (after_cats_line un mn) (step_ok (after_methods_line un) (step_ok after_subjects_line (step_ok first₁ (first_of 0 (split s)) ge) ue) me)
           (got-no (λ n. n) s mc.at c3.next-number4.result _ c3.next-number4.ensures.0 _ c.before.y.given.1),
       tt,
     )
@@ -160,7 +160,7 @@ returns-5 c =
     let gn = c16.g2.given.0.0 in
     let gc = c16.g2.given.0.1.0 in
     let ge = got-ok (λ n. n) s c20.start.result.at g.result _ g.ensures.0 gn gc c16.g2.given.1
-    ∙ ap (λ (z : ℕ). line (numberLine (bytes "guide=") 1 1) z (split (drop z s))) c20.start.ensures in
+    ∙ ap (λ (z : ℕ). line (number_line (bytes "guide=") 1 1) z (split (drop z s))) c20.start.ensures in
     let u = c13.next-number2 in
     let un = c11.u2.given.0.0 in
     let uc = c11.u2.given.0.1.0 in
@@ -173,8 +173,8 @@ returns-5 c =
     let yn = c.before.y2.given.0.0 in
     let yc = c.before.y2.given.0.1.0 in
     let ye = got-ok (λ n. n) s mc.at y.result _ y.ensures.0 yn yc c.before.y2.given.1 in (
-      step_ok (afterCatsLine un mn) (step_ok (afterMethodsLine un) (step_ok afterSubjectsLine (step_ok first₁ (first_of 0 (split s)) ge) ue) me) ye,
-      (got-at-most maxMethods m.result mn mc c6.m2.given.1 m.ensures.1, got-at-most maxCategories y.result yn yc c.before.y2.given.1 y.ensures.1),
+      step_ok (after_cats_line un mn) (step_ok (after_methods_line un) (step_ok after_subjects_line (step_ok first₁ (first_of 0 (split s)) ge) ue) me) ye,
+      (got-at-most max_methods m.result mn mc c6.m2.given.1 m.ensures.1, got-at-most max_categories y.result yn yc c.before.y2.given.1 y.ensures.1),
     )
 
 pub first-lines-spec : {M : Type 1} → statement M

@@ -6,24 +6,24 @@ use native.Mathlib.Numerals.{add-one}
 use native.Mathlib.Omega.{arith}
 use lib.ListN.{length, drop}
 use borrow.Author.Rules.{rules}
-use Rattle.spec_model.specs.Check.{linksOf}
-use Rattle.spec_model.specs.Table.{maxCategories}
+use Rattle.spec_model.specs.Check.{links_of}
+use Rattle.spec_model.specs.Table.{max_categories}
 use Rattle.table_record.proofs.Laws.{links-length}
 use Rattle.table_record.proofs.Linked.{links-put}
-use Rattle.table_record.specs.Records.{linkBytes}
-use Rattle.table_record.specs.Store.{linksIn, rawLinks}
+use Rattle.table_record.specs.Records.{link_bytes}
+use Rattle.table_record.specs.Store.{links_in, raw_links}
 use Rattle.spec_sheet.specs.Lines.{split, times, got}
 use Rattle.sheet_read_line.specs.View.{UnderGotExact}
 use Rattle.sheet_read_type.proofs.Readings.{times-done, times-stop, times-next}
 use Rattle.sheet_read.proofs.Readings.{under-no, under-ok}
 use Rattle.sheet_read.proofs.Stored.{links-none, links-add, empty-links, links-count, links-room, links-stored}
-use Rattle.sheet_read.specs.View.{linksTo, eachUnder}
+use Rattle.sheet_read.specs.View.{links_to, each_under}
 use Rattle.sheet_read.proofs.links_into.Statement.{statement}
 use Rattle.sheet_read.proofs.links_into.Tie as tie
 
 abbrev invariant-loop : tie.invariant-loop
-invariant-loop s cats l₀ j₀ at₀ l j at = (j ≤ cats) × (l ≡ linkBytes (linksTo j (linksIn l))) ×
-    (times (eachUnder cats) (cats - j) (j + 1) (linksTo j (linksIn l)) at (split (drop at s)) ≡ times (eachUnder cats) cats 1 [] at₀ (split (drop at₀ s)))
+invariant-loop s cats l₀ j₀ at₀ l j at = (j ≤ cats) × (l ≡ link_bytes (links_to j (links_in l))) ×
+    (times (each_under cats) (cats - j) (j + 1) (links_to j (links_in l)) at (split (drop at s)) ≡ times (each_under cats) cats 1 [] at₀ (split (drop at₀ s)))
 
 abbrev decreases-loop : tie.decreases-loop
 decreases-loop s cats l₀ j₀ at₀ l j at = cats - j
@@ -33,10 +33,10 @@ loop-holds c =
     let a = c.before.args in
     let e : a.cats - 0 ≡ a.cats = omega arith in
     let rs = split (drop a.c.at a.s.now) in
-    let none = links-none (linksIn a.l.now) in (
+    let none = links-none (links_in a.l.now) in (
       omega arith,
-      c.before.requires.1 ∙ empty-links ∙ ap linkBytes (sym none),
-      ap (λ z. times (eachUnder a.cats) (a.cats - 0) 1 z a.c.at rs) none ∙ ap (λ (z : ℕ). times (eachUnder a.cats) z 1 [] a.c.at rs) e,
+      c.before.requires.1 ∙ empty-links ∙ ap link_bytes (sym none),
+      ap (λ z. times (each_under a.cats) (a.cats - 0) 1 z a.c.at rs) none ∙ ap (λ (z : ℕ). times (each_under a.cats) z 1 [] a.c.at rs) e,
     )
 
 add-next-under : tie.Need-overflow-add-next-under invariant-loop decreases-loop
@@ -57,7 +57,7 @@ returns c =
     let a = c7.args in
     let p = c5.loop in
     let g = c3.next_under in (
-      times-stop (eachUnder a.cats) a.cats p.j (p.j + 1) (linksTo p.j (linksIn p.l)) p.at (split (drop p.at a.s.now)) _ p.invariant.2 c4.loop-test.true _ p.at
+      times-stop (each_under a.cats) a.cats p.j (p.j + 1) (links_to p.j (links_in p.l)) p.at (split (drop p.at a.s.now)) _ p.invariant.2 c4.loop-test.true _ p.at
           (under-no a.s.now p.at g.result _ g.ensures.0 _ c.before.g.given.1),
       tt,
     )
@@ -74,8 +74,8 @@ put-links-requires c κs =
     let c6 = c5.before in
     let c8 = c6.before.before in
     let p = c6.loop in
-    let n : length (linksTo p.j (linksIn p.l)) ≡ p.j = links-count p.j (linksIn p.l) in
-    (omega (arith, c8.requires.0, c5.loop-test.true), ap length p.invariant.1 ∙ links-room (linksTo p.j (linksIn p.l)) (omega (arith, c8.requires.0, c5.loop-test.true)))
+    let n : length (links_to p.j (links_in p.l)) ≡ p.j = links-count p.j (links_in p.l) in
+    (omega (arith, c8.requires.0, c5.loop-test.true), ap length p.invariant.1 ∙ links-room (links_to p.j (links_in p.l)) (omega (arith, c8.requires.0, c5.loop-test.true)))
 
 add-j : tie.Need-overflow-add-j invariant-loop decreases-loop
 add-j c = search rules
@@ -95,17 +95,17 @@ loop-again c =
     let g = c5.next_under in
     let x = c3.g2.given.0.0 in
     let next = c3.g2.given.0.1.0 in
-    let ls = linksIn p.l in
-    let small : p.j < maxCategories = omega (arith, c9.requires.0, c6.loop-test.true) in
-    let n : length (linksTo p.j ls) ≡ p.j = links-count p.j ls in
+    let ls = links_in p.l in
+    let small : p.j < max_categories = omega (arith, c9.requires.0, c6.loop-test.true) in
+    let n : length (links_to p.j ls) ≡ p.j = links-count p.j ls in
     let k : p.j + 1 < length ls = omega (arith, links-length p.l) in
-    let put = ap linksIn c.put-links.ensures ∙ links-put p.l (p.j + 1) (rawLinks x) (omega arith) (ap length p.invariant.1 ∙ links-room (linksTo p.j ls) (omega arith)) in
-    let one = ap (linksTo (p.j + 1)) put ∙ links-add ls p.j (rawLinks x) k in (
+    let put = ap links_in c.put-links.ensures ∙ links-put p.l (p.j + 1) (raw_links x) (omega arith) (ap length p.invariant.1 ∙ links-room (links_to p.j ls) (omega arith)) in
+    let one = ap (links_to (p.j + 1)) put ∙ links-add ls p.j (raw_links x) k in (
       omega arith,
-      links-stored (linksTo p.j ls) (linksOf (rawLinks x)) p.j (rawLinks x) p.l _ n small p.invariant.1 (subst UnderGotExact c3.g2.given.1 g.ensures.1)
-          c.put-links.ensures ∙ ap linkBytes (sym one),
-      times-next (eachUnder a.cats) a.cats p.j (p.j + 1) (linksTo p.j ls) p.at (split (drop p.at a.s.now)) _ p.invariant.2 c6.loop-test.true
-          (linksOf (rawLinks x)) next.at (split (drop next.at a.s.now)) (p.j + 1 + 1) _
+      links-stored (links_to p.j ls) (links_of (raw_links x)) p.j (raw_links x) p.l _ n small p.invariant.1 (subst UnderGotExact c3.g2.given.1 g.ensures.1)
+          c.put-links.ensures ∙ ap link_bytes (sym one),
+      times-next (each_under a.cats) a.cats p.j (p.j + 1) (links_to p.j ls) p.at (split (drop p.at a.s.now)) _ p.invariant.2 c6.loop-test.true
+          (links_of (raw_links x)) next.at (split (drop next.at a.s.now)) (p.j + 1 + 1) _
           (under-ok a.s.now p.at g.result _ g.ensures.0 x next c3.g2.given.1) (add-one (p.j + 1)) one,
     )
 
@@ -114,9 +114,9 @@ returns-2 c =
     let a = c.before.before.before.args in
     let p = c.before.loop in
     let e : p.j ≡ a.cats = omega arith in (
-      ap (λ (z : ℕ). got (linksTo z (linksIn p.l)) p.at (split (drop p.at a.s.now))) (sym e)
-          ∙ times-done (eachUnder a.cats) a.cats p.j (p.j + 1) (linksTo p.j (linksIn p.l)) p.at (split (drop p.at a.s.now)) _ p.invariant.2 c.loop-test.false,
-      p.invariant.1 ∙ ap (λ (z : ℕ). linkBytes (linksTo z (linksIn p.l))) e,
+      ap (λ (z : ℕ). got (links_to z (links_in p.l)) p.at (split (drop p.at a.s.now))) (sym e)
+          ∙ times-done (each_under a.cats) a.cats p.j (p.j + 1) (links_to p.j (links_in p.l)) p.at (split (drop p.at a.s.now)) _ p.invariant.2 c.loop-test.false,
+      p.invariant.1 ∙ ap (λ (z : ℕ). link_bytes (links_to z (links_in p.l))) e,
     )
 
 pub links-into-spec : {M : Type 1} → statement M

@@ -2,9 +2,9 @@
 use mathlib.Core.Path.{ap, sym, subst, ◌∙◌}
 use borrow.Author.Rules.{rules}
 use Rattle.spec_sheet.specs.Lines.{follow}
-use Rattle.spec_sheet.specs.Sheet.{sheetResult, ending}
+use Rattle.spec_sheet.specs.Sheet.{sheet_result, ending}
 use Rattle.sheet_read.proofs.Readings.{sheet-of}
-use Rattle.sheet_read.specs.View.{firstBy, FirstWithin, afterFirst, sheetFor}
+use Rattle.sheet_read.specs.View.{first_by, FirstWithin, after_first, sheet_for}
 use Rattle.sheet_read.proofs.read_into.Statement.{statement}
 use Rattle.sheet_read.proofs.read_into.Tie as tie
 
@@ -42,7 +42,7 @@ returns c =
     let c10 = c6.before.before.before.before in
     let s = c10.args.s.now in
     let h = c6.first-lines in
-    c.refused.ensures ∙ ap sheetFor (ap (λ z. sheetResult (follow (follow z afterFirst) ending)) (ap (firstBy s) (sym c4.g.given.1) ∙ h.ensures.0) ∙ sheet-of s)
+    c.refused.ensures ∙ ap sheet_for (ap (λ z. sheet_result (follow (follow z after_first) ending)) (ap (first_by s) (sym c4.g.given.1) ∙ h.ensures.0) ∙ sheet-of s)
 
 returns-2 : tie.Need-returns-2
 returns-2 c =
@@ -51,7 +51,7 @@ returns-2 c =
     let c10 = c6.before.before.before.before in
     let s = c10.args.s.now in
     let h = c6.first-lines in
-    c.after_first.ensures ∙ ap sheetFor (ap (λ z. sheetResult (follow (follow z afterFirst) ending)) (ap (firstBy s) (sym c4.g2.given.1) ∙ h.ensures.0) ∙ sheet-of s)
+    c.after_first.ensures ∙ ap sheet_for (ap (λ z. sheet_result (follow (follow z after_first) ending)) (ap (first_by s) (sym c4.g2.given.1) ∙ h.ensures.0) ∙ sheet-of s)
 
 pub read-into-spec : {M : Type 1} → statement M
 read-into-spec =

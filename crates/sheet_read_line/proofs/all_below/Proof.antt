@@ -6,13 +6,13 @@ use lib.ListN.{drop}
 use borrow.Author.Rules.{rules}
 use Rattle.spec_model.specs.Basics.{all}
 use Rattle.spec_sheet.specs.Sheet.{below}
-use Rattle.text_read.specs.View.{numbersOf}
+use Rattle.text_read.specs.View.{numbers_of}
 use Rattle.sheet_read_line.proofs.Laws.{below-not, below_next, below_all}
 use Rattle.sheet_read_line.proofs.all_below.Statement.{statement}
 use Rattle.sheet_read_line.proofs.all_below.Tie as tie
 
 abbrev invariant-loop : tie.invariant-loop
-invariant-loop t n count i₀ i = (i ≤ t.count) × (count ≡ t.count) × (all (below n) (numbersOf t) ≡ all (below n) (drop i (numbersOf t)))
+invariant-loop t n count i₀ i = (i ≤ t.count) × (count ≡ t.count) × (all (below n) (numbers_of t) ≡ all (below n) (drop i (numbers_of t)))
 
 abbrev decreases-loop : tie.decreases-loop
 decreases-loop t n count i₀ i = t.count - i

@@ -1,6 +1,6 @@
 -- The cursor goes past an `own=` line as the definition does: the one law of a line (`line_read`), since this kind too refuses an empty line (`own-empty`).
 use borrow.Author.Rules.{rules}
-use Rattle.spec_sheet.specs.Sheet.{ownLine}
+use Rattle.spec_sheet.specs.Sheet.{own_line}
 use Rattle.text_read.proofs.Laws.{line_read, passed-at-most}
 use Rattle.sheet_read_line.proofs.Laws.{own-empty}
 use Rattle.sheet_read_line.specs.View.{yes_of}
@@ -25,7 +25,7 @@ returns c =
     let l = c.before.before.between in
     let d = c.before.before.before.next-line in
     let a = c.before.before.before.before.before.args in (
-      line_read ownLine own-empty a.s.now a.c d.result d.ensures _ l.ensures yes_of v.result c.passed.result v.ensures.0 c.passed.ensures,
+      line_read own_line own-empty a.s.now a.c d.result d.ensures _ l.ensures yes_of v.result c.passed.result v.ensures.0 c.passed.ensures,
       passed-at-most 1 d.result v.result c.passed.result v.ensures.1 c.passed.ensures,
     )
 

@@ -1,12 +1,12 @@
 -- The cursor goes past an `under=` line as the definition does, refused or accepted: the one law of a line, since this kind too refuses an empty line (`under-empty`).
 use mathlib.Core.Path.{ap, sym, subst, ◌∙◌}
 use borrow.Author.Rules.{rules}
-use Rattle.spec_model.specs.Check.{linksOf}
-use Rattle.table_record.specs.Store.{rawLinks}
-use Rattle.spec_sheet.specs.Sheet.{underLine}
+use Rattle.spec_model.specs.Check.{links_of}
+use Rattle.table_record.specs.Store.{raw_links}
+use Rattle.spec_sheet.specs.Sheet.{under_line}
 use Rattle.text_read.proofs.Laws.{line_refused, line-accepted}
 use Rattle.sheet_read_line.proofs.Laws.{under-empty}
-use Rattle.sheet_read_line.specs.View.{underBy, UnderExact}
+use Rattle.sheet_read_line.specs.View.{under_by, UnderExact}
 use Rattle.sheet_read_line.proofs.next_under.Statement.{statement}
 use Rattle.sheet_read_line.proofs.next_under.Tie as tie
 
@@ -31,8 +31,8 @@ returns c =
     let l = c.before.before.before.before.between in
     let d = c.before.before.before.before.before.next-line in
     let a = c.before.before.before.before.before.before.before.args in (
-      line_refused (underLine a.cats a.k) (under-empty a.cats a.k) a.s.now a.c.at d.result.at d.ensures _ l.ensures _
-          (ap underBy (sym c.before.v.given.1) ∙ v.ensures.0),
+      line_refused (under_line a.cats a.k) (under-empty a.cats a.k) a.s.now a.c.at d.result.at d.ensures _ l.ensures _
+          (ap under_by (sym c.before.v.given.1) ∙ v.ensures.0),
       tt,
     )
 
@@ -42,9 +42,9 @@ returns-2 c =
     let l = c.before.before.before.before.between in
     let d = c.before.before.before.before.before.next-line in
     let a = c.before.before.before.before.before.before.before.args in
-    let x = linksOf (rawLinks c.before.v2.given.0.0) in (
-      line-accepted (underLine a.cats a.k) (under-empty a.cats a.k) a.s.now a.c.at d.result.at d.ensures _ l.ensures x
-          (ap underBy (sym c.before.v2.given.1) ∙ v.ensures.0),
+    let x = links_of (raw_links c.before.v2.given.0.0) in (
+      line-accepted (under_line a.cats a.k) (under-empty a.cats a.k) a.s.now a.c.at d.result.at d.ensures _ l.ensures x
+          (ap under_by (sym c.before.v2.given.1) ∙ v.ensures.0),
       subst UnderExact c.before.v2.given.1 v.ensures.1,
     )
 

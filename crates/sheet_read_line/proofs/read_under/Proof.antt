@@ -4,7 +4,7 @@ use native.Mathlib.Omega.{arith}
 use borrow.Author.Rules.{rules}
 use borrow.Author.Tests.{not-true, not-false}
 use Rattle.spec_model.specs.Basics.{ok}
-use Rattle.text_read.specs.View.{numbersOf}
+use Rattle.text_read.specs.View.{numbers_of}
 use Rattle.text_read.proofs.Laws.{starts-length, scan-right, scan-wrong}
 use Rattle.sheet_read_line.proofs.Laws.{under-key, under-wrong, under-behind, under-above, under-high, under-good, item-small, links-are}
 use Rattle.sheet_read_line.proofs.read_under.Statement.{statement}
@@ -29,7 +29,7 @@ returns-2 c =
     let a = c.before.before.before.before.before.before.before.args in
     let key = sym c.before.before.before.before.begins.ensures ∙ not-false c.before.before.before.before.begins.result c.before.before.before.if1.false in
     let t = c.before.before.numbers-at in
-    let xs = numbersOf t.result in
+    let xs = numbers_of t.result in
     (under-wrong a.cats a.k a.l.now key (scan-wrong a.l.now t.result.right xs t.result.next _ t.ensures.0 (not-true t.result.right c.if2.true)), tt)
 
 returns-3 : tie.Need-returns-3
@@ -42,7 +42,7 @@ returns-3 c =
     let a = c9.args in
     let key = sym c6.begins.ensures ∙ not-false c6.begins.result c5.if1.false in
     let t = c4.numbers-at in
-    let xs = numbersOf t.result in
+    let xs = numbers_of t.result in
     let right = not-false t.result.right c2.if2.false in
     let s = scan-right a.l.now t.result.right xs t.result.next _ t.ensures.0 right in
     (under-behind a.cats a.k a.l.now key xs t.result.next s c.if3.true, tt)
@@ -65,7 +65,7 @@ returns-4 c =
     let a = c11.args in
     let key = sym c8.begins.ensures ∙ not-false c8.begins.result c7.if1.false in
     let t = c6.numbers-at in
-    let xs = numbersOf t.result in
+    let xs = numbers_of t.result in
     let right = not-false t.result.right c4.if2.false in
     let s = scan-right a.l.now t.result.right xs t.result.next _ t.ensures.0 right in
     (under-above a.cats a.k a.l.now key xs t.result.next s c2.if3.false (sym c1.all-below.ensures ∙ not-true c1.all-below.result c.if4.true), tt)
@@ -87,7 +87,7 @@ returns-5 c =
     let a = c13.args in
     let key = sym c10.begins.ensures ∙ not-false c10.begins.result c9.if1.false in
     let t = c8.numbers-at in
-    let xs = numbersOf t.result in
+    let xs = numbers_of t.result in
     let right = not-false t.result.right c6.if2.false in
     let s = scan-right a.l.now t.result.right xs t.result.next _ t.ensures.0 right in
     let known = sym c3.all-below.ensures ∙ not-false c3.all-below.result c2.if4.false in
@@ -133,7 +133,7 @@ returns-6 c =
     let a = c16.args in
     let key = sym c13.begins.ensures ∙ not-false c13.begins.result c12.if1.false in
     let t = c11.numbers-at in
-    let xs = numbersOf t.result in
+    let xs = numbers_of t.result in
     let right = not-false t.result.right c9.if2.false in
     let s = scan-right a.l.now t.result.right xs t.result.next _ t.ensures.0 right in
     let known = sym c6.all-below.ensures ∙ not-false c6.all-below.result c5.if4.false in

@@ -5,7 +5,7 @@ use native.Mathlib.Omega.{arith}
 use lib.ListN.{length}
 use borrow.Author.Rules.{rules}
 use borrow.Author.Tests.{not-true, not-false}
-use Rattle.text_read.specs.View.{numbersOf}
+use Rattle.text_read.specs.View.{numbers_of}
 use Rattle.text_read.proofs.Laws.{scan-right, scan-wrong}
 use Rattle.sheet_read_method.proofs.Laws.{args_none, args-empty, args-wrong, args-open, args-other, args-closed, none_read, empty-read, closed-read}
 use Rattle.sheet_read_method.proofs.args_at.Statement.{statement}
@@ -48,8 +48,8 @@ returns-3 c =
     let t = c2.numbers-at in
     let wrong = not-true t.result.right c.if3.true in
     let h : a.at < length a.l.now = omega (arith, c7.requires, c3.before.before.if1.false) in (
-      t.ensures.0 ∙ sym (scan-wrong a.l.now t.result.right (numbersOf t.result) t.result.next _ t.ensures.0 wrong)
-          ∙ args-wrong a.l.now a.at h c3.if2.false (scan-wrong a.l.now t.result.right (numbersOf t.result) t.result.next _ t.ensures.0 wrong),
+      t.ensures.0 ∙ sym (scan-wrong a.l.now t.result.right (numbers_of t.result) t.result.next _ t.ensures.0 wrong)
+          ∙ args-wrong a.l.now a.at h c3.if2.false (scan-wrong a.l.now t.result.right (numbers_of t.result) t.result.next _ t.ensures.0 wrong),
       (t.ensures.1.0, t.ensures.1.1, t.ensures.1.2),
     )
 
@@ -64,9 +64,9 @@ returns-4 c =
     let a = c9.args in
     let t = c4.numbers-at in
     let h : a.at < length a.l.now = omega (arith, c9.requires, c5.before.before.if1.false) in
-    let s = scan-right a.l.now t.result.right (numbersOf t.result) t.result.next _ t.ensures.0 (not-false t.result.right c.before.before.if3.false) in
+    let s = scan-right a.l.now t.result.right (numbers_of t.result) t.result.next _ t.ensures.0 (not-false t.result.right c.before.before.if3.false) in
     none_read a.l.now a.at c.no-numbers3.result _ c.no-numbers3.ensures c9.requires
-    (args-open a.l.now a.at h c5.if2.false (numbersOf t.result) t.result.next s c.before.if4.true)
+    (args-open a.l.now a.at h c5.if2.false (numbers_of t.result) t.result.next s c.before.if4.true)
 
 shared-slice-read-if5 : tie.Need-shared-slice-read-if5
 shared-slice-read-if5 c = omega (arith, c.before.if4.false, c.before.before.before.before.numbers-at.ensures.1.0)
@@ -83,9 +83,9 @@ returns-5 c =
     let t = c6.numbers-at in
     let h : a.at < length a.l.now = omega (arith, c11.requires, c7.before.before.if1.false) in
     let k : t.result.next < length a.l.now = omega (arith, t.ensures.1.0, c.before.before.before.if4.false) in
-    let s = scan-right a.l.now t.result.right (numbersOf t.result) t.result.next _ t.ensures.0 (not-false t.result.right c.before.before.before.before.if3.false) in
+    let s = scan-right a.l.now t.result.right (numbers_of t.result) t.result.next _ t.ensures.0 (not-false t.result.right c.before.before.before.before.if3.false) in
     none_read a.l.now a.at c.no-numbers4.result _ c.no-numbers4.ensures c11.requires
-    (args-other a.l.now a.at h c7.if2.false (numbersOf t.result) t.result.next s k c.before.if5.true)
+    (args-other a.l.now a.at h c7.if2.false (numbers_of t.result) t.result.next s k c.before.if5.true)
 
 add-t : tie.Need-overflow-add-t
 add-t c = omega (arith, c.before.before.if4.false, c.before.before.before.before.before.numbers-at.ensures.1.0)
@@ -100,9 +100,9 @@ returns-6 c =
     let h : a.at < length a.l.now = omega (arith, c10.requires, c6.before.before.if1.false) in
     let k : t.result.next < length a.l.now = omega (arith, t.ensures.1.0, c.before.before.if4.false) in
     let right = not-false t.result.right c.before.before.before.if3.false in
-    let s = scan-right a.l.now t.result.right (numbersOf t.result) t.result.next _ t.ensures.0 right in
+    let s = scan-right a.l.now t.result.right (numbers_of t.result) t.result.next _ t.ensures.0 right in
     closed-read a.l.now t.result right k t.ensures.1.1 t.ensures.1.2 _
-    (args-closed a.l.now a.at h c6.if2.false (numbersOf t.result) t.result.next s k c.if5.false)
+    (args-closed a.l.now a.at h c6.if2.false (numbers_of t.result) t.result.next s k c.if5.false)
 
 pub args-at-spec : {M : Type 1} → statement M
 args-at-spec =

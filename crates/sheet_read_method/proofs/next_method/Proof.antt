@@ -1,8 +1,8 @@
 -- The cursor goes past an `m=` line as the definition does: the one law of a line (`line-result`), since this kind too refuses an empty line (`method-empty`).
 use borrow.Author.Rules.{rules}
-use Rattle.spec_model.specs.Check.{methodOf}
-use Rattle.table_record.specs.Store.{rawMethod}
-use Rattle.spec_sheet.specs.Sheet.{methodLine}
+use Rattle.spec_model.specs.Check.{method_of}
+use Rattle.table_record.specs.Store.{raw_method}
+use Rattle.spec_sheet.specs.Sheet.{method_line}
 use Rattle.text_read.proofs.Laws.{line-result}
 use Rattle.sheet_read_method.proofs.Laws.{method-empty}
 use Rattle.sheet_read_method.proofs.next_method.Statement.{statement}
@@ -27,8 +27,8 @@ returns c =
     let l = c.before.before.before.between in
     let d = c.before.before.before.before.next-line in
     let a = c.before.before.before.before.before.before.args in
-    let x = methodOf (rawMethod g.result.m) in (
-      line-result (methodLine a.n) (method-empty a.n) a.s.now a.c.at d.result.at d.ensures _ l.ensures
+    let x = method_of (raw_method g.result.m) in (
+      line-result (method_line a.n) (method-empty a.n) a.s.now a.c.at d.result.at d.ensures _ l.ensures
           g.result.refusal x next.result.at g.ensures.0 next.ensures,
       g.ensures.1,
     )

@@ -12,7 +12,7 @@ use Rattle.text_read.proofs.Laws.{scan-right, scan-wrong, number-scan-wrong, num
 use Rattle.sheet_read_method.proofs.Laws.{signature-args, signature-answer, signature-behind, signature-high, signature-answer-high, signature-good, signed-means, permits-below}
 use Rattle.sheet_read_line.proofs.Laws.{item-small}
 use Rattle.sheet_read_method.proofs.Laws.{args-taken, args-rest}
-use Rattle.text_read.specs.View.{numbersOf}
+use Rattle.text_read.specs.View.{numbers_of}
 use Rattle.sheet_read_method.proofs.read_signature.Statement.{statement}
 use Rattle.sheet_read_method.proofs.read_signature.Tie as tie
 
@@ -30,7 +30,7 @@ returns c =
     let a = c5.args in
     let t = c3.args_at in
     let l = drop a.at a.l.now in
-    let wrong = scan-wrong a.l.now t.result.right (numbersOf t.result) t.result.next _ t.ensures.0 (not-true t.result.right c1.if1.true) in
+    let wrong = scan-wrong a.l.now t.result.right (numbers_of t.result) t.result.next _ t.ensures.0 (not-true t.result.right c1.if1.true) in
     (c.no-method.ensures.0 ∙ signature-args a.n (state_of a.state) l wrong, c.no-method.ensures.1)
 
 answer-at-requires : tie.Need-answer-at-requires
@@ -55,9 +55,9 @@ returns-2 c =
     let a = c8.args in
     let t = c6.args_at in
     let l = drop a.at a.l.now in
-    let e = scan-right a.l.now t.result.right (numbersOf t.result) t.result.next _ t.ensures.0 (not-false t.result.right c4.if1.false) in
+    let e = scan-right a.l.now t.result.right (numbers_of t.result) t.result.next _ t.ensures.0 (not-false t.result.right c4.if1.false) in
     let q = number-scan-wrong answer_of a.l.now c3.answer_at.result _ c3.answer_at.ensures c1.enum_told.given.1 in
-    (c.no-method2.ensures.0 ∙ signature-answer a.n (state_of a.state) l (numbersOf t.result) (drop t.result.next a.l.now) e q, c.no-method2.ensures.1)
+    (c.no-method2.ensures.0 ∙ signature-answer a.n (state_of a.state) l (numbers_of t.result) (drop t.result.next a.l.now) e q, c.no-method2.ensures.1)
 
 no-method-requires-3 : tie.Need-no-method-requires-3
 no-method-requires-3 c κs = search rules
@@ -73,12 +73,12 @@ returns-3 c =
     let a = c10.args in
     let t = c8.args_at in
     let l = drop a.at a.l.now in
-    let e = scan-right a.l.now t.result.right (numbersOf t.result) t.result.next _ t.ensures.0 (not-false t.result.right c6.if1.false) in
+    let e = scan-right a.l.now t.result.right (numbers_of t.result) t.result.next _ t.ensures.0 (not-false t.result.right c6.if1.false) in
     let m : ℕ = c3.o.given.0.0 in
     let next : ℕ = c3.o.given.0.1.0 in
     let q = number-scan-right answer_of a.l.now c5.answer_at.result _ c5.answer_at.ensures m next c3.o.given.1 in (
       c.no-method3.ensures.0
-          ∙ signature-behind a.n (state_of a.state) l (numbersOf t.result) (drop t.result.next a.l.now) e m a.l.now next q c1.if2.true,
+          ∙ signature-behind a.n (state_of a.state) l (numbers_of t.result) (drop t.result.next a.l.now) e m a.l.now next q c1.if2.true,
       c.no-method3.ensures.1,
     )
 
@@ -101,13 +101,13 @@ returns-4 c =
     let a = c12.args in
     let t = c10.args_at in
     let l = drop a.at a.l.now in
-    let e = scan-right a.l.now t.result.right (numbersOf t.result) t.result.next _ t.ensures.0 (not-false t.result.right c8.if1.false) in
+    let e = scan-right a.l.now t.result.right (numbers_of t.result) t.result.next _ t.ensures.0 (not-false t.result.right c8.if1.false) in
     let m : ℕ = c5.o.given.0.0 in
     let next : ℕ = c5.o.given.0.1.0 in
     let q = number-scan-right answer_of a.l.now c7.answer_at.result _ c7.answer_at.ensures m next c5.o.given.1 in
     let high = sym c2.all-below.ensures ∙ not-true c2.all-below.result c1.if3.true in (
       c.no-method4.ensures.0
-          ∙ signature-high a.n (state_of a.state) l (numbersOf t.result) (drop t.result.next a.l.now) e m a.l.now next q c3.if2.false high,
+          ∙ signature-high a.n (state_of a.state) l (numbers_of t.result) (drop t.result.next a.l.now) e m a.l.now next q c3.if2.false high,
       c.no-method4.ensures.1,
     )
 
@@ -128,13 +128,13 @@ returns-5 c =
     let a = c13.args in
     let t = c11.args_at in
     let l = drop a.at a.l.now in
-    let e = scan-right a.l.now t.result.right (numbersOf t.result) t.result.next _ t.ensures.0 (not-false t.result.right c9.if1.false) in
+    let e = scan-right a.l.now t.result.right (numbers_of t.result) t.result.next _ t.ensures.0 (not-false t.result.right c9.if1.false) in
     let m : ℕ = c6.o.given.0.0 in
     let next : ℕ = c6.o.given.0.1.0 in
     let q = number-scan-right answer_of a.l.now c8.answer_at.result _ c8.answer_at.ensures m next c6.o.given.1 in
     let low = sym c3.all-below.ensures ∙ not-false c3.all-below.result c2.if3.false in (
       c.no-method5.ensures.0
-          ∙ signature-answer-high a.n (state_of a.state) l (numbersOf t.result) (drop t.result.next a.l.now) e m a.l.now next q c4.if2.false low c1.if4.true,
+          ∙ signature-answer-high a.n (state_of a.state) l (numbers_of t.result) (drop t.result.next a.l.now) e m a.l.now next q c4.if2.false low c1.if4.true,
       c.no-method5.ensures.1,
     )
 
@@ -203,7 +203,7 @@ returns-6 c =
     let a = c18.args in
     let t = c16.args_at in
     let l = drop a.at a.l.now in
-    let e = scan-right a.l.now t.result.right (numbersOf t.result) t.result.next _ t.ensures.0 (not-false t.result.right c14.if1.false) in
+    let e = scan-right a.l.now t.result.right (numbers_of t.result) t.result.next _ t.ensures.0 (not-false t.result.right c14.if1.false) in
     let m : ℕ = c11.o.given.0.0 in
     let next : ℕ = c11.o.given.0.1.0 in
     let q = number-scan-right answer_of a.l.now c13.answer_at.result _ c13.answer_at.ensures m next c11.o.given.1 in
@@ -214,8 +214,8 @@ returns-6 c =
     c1.narrow5.ensures in
     let rest = args-rest a.n t.result (omega (arith, t.ensures.1.1)) t.ensures.1.2 _ _ _ _ c4.narrow2.ensures c3.narrow3.ensures c2.narrow4.ensures
     c1.narrow5.ensures in (
-      ap ok (signed-means a.state count.result c.narrow6.result m t.result.count _ (numbersOf t.result) permits count.ensures taken c.narrow6.ensures)
-          ∙ signature-good a.n (state_of a.state) l (numbersOf t.result) (drop t.result.next a.l.now) e m a.l.now next q c9.if2.false low c6.if4.false,
+      ap ok (signed-means a.state count.result c.narrow6.result m t.result.count _ (numbers_of t.result) permits count.ensures taken c.narrow6.ensures)
+          ∙ signature-good a.n (state_of a.state) l (numbers_of t.result) (drop t.result.next a.l.now) e m a.l.now next q c9.if2.false low c6.if4.false,
       signed-exact _ (permits-below a.state permits) permits (omega (arith, count.ensures, t.ensures.1.1)) refl (λ k h. rest k (omega (arith, count.ensures))),
     )
 

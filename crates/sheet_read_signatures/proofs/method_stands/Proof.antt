@@ -2,9 +2,9 @@
 use mathlib.Core.Path.{sym, ◌∙◌}
 use borrow.Author.Rules.{rules}
 use borrow.Author.Tests.{not-true, not-false}
-use Rattle.table_record.specs.Store.{types_in, rawMethod}
+use Rattle.table_record.specs.Store.{types_in, raw_method}
 use Rattle.sheet_read_signatures.proofs.Laws.{method-unsigned, method-args, method-silent, method-answer}
-use Rattle.sheet_read_signatures.specs.Signatures.{standsAt}
+use Rattle.sheet_read_signatures.specs.Signatures.{stands_at}
 use Rattle.sheet_read_signatures.proofs.method_stands.Statement.{statement}
 use Rattle.sheet_read_signatures.proofs.method_stands.Tie as tie
 
@@ -14,7 +14,7 @@ permits-requires c κs = search rules
 returns : tie.Need-returns
 returns c =
     let c2 = c.before.before in
-    let a = c2.args in method-unsigned (standsAt (types_in a.b.now) a.n) (rawMethod a.m) (sym c.before.permits.ensures ∙ not-true c.before.permits.result c.if1.true)
+    let a = c2.args in method-unsigned (stands_at (types_in a.b.now) a.n) (raw_method a.m) (sym c.before.permits.ensures ∙ not-true c.before.permits.result c.if1.true)
 
 args-stand-requires : tie.Need-args-stand-requires
 args-stand-requires c κs = search rules
@@ -23,7 +23,7 @@ returns-2 : tie.Need-returns-2
 returns-2 c =
     let a = c.before.before.before.before.args in
     let p = sym c.before.before.before.permits.ensures ∙ not-false c.before.before.before.permits.result c.before.before.if1.false in
-    method-args (standsAt (types_in a.b.now) a.n) (rawMethod a.m) p (sym c.before.args-stand.ensures ∙ not-true c.before.args-stand.result c.if2.true)
+    method-args (stands_at (types_in a.b.now) a.n) (raw_method a.m) p (sym c.before.args-stand.ensures ∙ not-true c.before.args-stand.result c.if2.true)
 
 wide-requires : tie.Need-wide-requires
 wide-requires c κs = search rules
@@ -34,7 +34,7 @@ returns-3 c =
     let p = sym c.before.before.before.before.before.permits.ensures
     ∙ not-false c.before.before.before.before.before.permits.result c.before.before.before.before.if1.false in
     let e = sym c.before.before.before.args-stand.ensures ∙ not-false c.before.before.before.args-stand.result c.before.before.if2.false in
-    method-silent (standsAt (types_in a.b.now) a.n) (rawMethod a.m) p e (sym c.before.wide.ensures.0 ∙ c.if3.true)
+    method-silent (stands_at (types_in a.b.now) a.n) (raw_method a.m) p e (sym c.before.wide.ensures.0 ∙ c.if3.true)
 
 sub-stands-at : tie.Need-overflow-sub-stands-at
 sub-stands-at c = search rules
@@ -53,7 +53,7 @@ returns-4 c =
     let a = c7.args in
     let p = sym c6.permits.ensures ∙ not-false c6.permits.result c5.if1.false in
     let e = sym c4.args-stand.ensures ∙ not-false c4.args-stand.result c3.if2.false in
-    c.stands_at.ensures ∙ method-answer (standsAt (types_in a.b.now) a.n) (rawMethod a.m) p e c2.wide.result c2.wide.ensures.0 c.before.if3.false
+    c.stands_at.ensures ∙ method-answer (stands_at (types_in a.b.now) a.n) (raw_method a.m) p e c2.wide.result c2.wide.ensures.0 c.before.if3.false
 
 pub method-stands-spec : {M : Type 1} → statement M
 method-stands-spec =

@@ -6,7 +6,7 @@ use lib.ListN.{length, get_or, drop}
 use borrow.Author.Rules.{rules}
 use borrow.Author.Tests.{not-true, not-false}
 use Rattle.spec_model.specs.Basics.{all, from}
-use Rattle.spec_model.specs.Check.{noRawType, noRawMethod, methodOf}
+use Rattle.spec_model.specs.Check.{no_raw_type, no_raw_method, method_of}
 use Rattle.spec_model.specs.Table.{Method}
 use Rattle.table_record.proofs.Codes.{number-rep}
 use Rattle.table_record.proofs.Lists.{length_from, from_first}
@@ -14,13 +14,13 @@ use Rattle.table_record.specs.Store.{types_in}
 use Rattle.table_record.specs.declared.Head.{Head}
 use Rattle.spec_sheet.specs.Sheet.{stands}
 use Rattle.sheet_read_signatures.proofs.Laws.{all-broken, all-next, all_done, methods-number, methods-ref}
-use Rattle.sheet_read_signatures.specs.Signatures.{standsAt}
+use Rattle.sheet_read_signatures.specs.Signatures.{stands_at}
 use Rattle.sheet_read_signatures.proofs.type_stands.Statement.{statement}
 use Rattle.sheet_read_signatures.proofs.type_stands.Tie as tie
 
 abbrev invariant-loop : tie.invariant-loop
-invariant-loop b n m i j₀ j = (j ≤ m) × (all (stands (standsAt (types_in b) n)) (from m 0 (λ j. methodOf (get_or (get_or (types_in b) i noRawType).methods j noRawMethod)))
-    ≡ all (stands (standsAt (types_in b) n)) (drop j (from m 0 (λ j. methodOf (get_or (get_or (types_in b) i noRawType).methods j noRawMethod)))))
+invariant-loop b n m i j₀ j = (j ≤ m) × (all (stands (stands_at (types_in b) n)) (from m 0 (λ j. method_of (get_or (get_or (types_in b) i no_raw_type).methods j no_raw_method)))
+    ≡ all (stands (stands_at (types_in b) n)) (drop j (from m 0 (λ j. method_of (get_or (get_or (types_in b) i no_raw_type).methods j no_raw_method)))))
 
 abbrev decreases-loop : tie.decreases-loop
 decreases-loop b n m i j₀ j = m - j
@@ -31,8 +31,8 @@ get-head-requires c κs = search rules
 returns : tie.Need-returns invariant-loop decreases-loop
 returns c =
     let a = c.before.before.before.args in
-    let x = get_or (types_in a.b.now) a.i noRawType in
-    methods-number (standsAt (types_in a.b.now) a.n) a.m x (number-rep x.rep (λ q. c.if1.true (ap (λ (h : Head). h.rep) c.before.before.get-head.ensures ∙ q)))
+    let x = get_or (types_in a.b.now) a.i no_raw_type in
+    methods-number (stands_at (types_in a.b.now) a.n) a.m x (number-rep x.rep (λ q. c.if1.true (ap (λ (h : Head). h.rep) c.before.before.get-head.ensures ∙ q)))
 
 loop-holds : tie.Need-loop-init invariant-loop decreases-loop
 loop-holds c = (omega arith, refl)
@@ -54,13 +54,13 @@ returns-2 c =
     let a = c8.args in
     let p = c4.loop in
     let rs = types_in a.b.now in
-    let x = get_or rs a.i noRawType in
-    let f : ℕ → Method = λ j. methodOf (get_or x.methods j noRawMethod) in
+    let x = get_or rs a.i no_raw_type in
+    let f : ℕ → Method = λ j. method_of (get_or x.methods j no_raw_method) in
     let l : length (from a.m 0 f) ≡ a.m = length_from f a.m 0 in
-    all-broken (stands (standsAt rs a.n)) (from a.m 0 f) p.j (methodOf noRawMethod) p.invariant.1 (omega arith)
-    (ap (stands (standsAt rs a.n)) (from_first f a.m p.j (methodOf noRawMethod) c3.loop-test.true ∙ ap methodOf (sym c2.get-method.ensures))
+    all-broken (stands (stands_at rs a.n)) (from a.m 0 f) p.j (method_of no_raw_method) p.invariant.1 (omega arith)
+    (ap (stands (stands_at rs a.n)) (from_first f a.m p.j (method_of no_raw_method) c3.loop-test.true ∙ ap method_of (sym c2.get-method.ensures))
     ∙ sym c.before.method-stands.ensures ∙ not-true c.before.method-stands.result c.if2.true)
-    ∙ methods-ref (standsAt rs a.n) a.m x (sym (ap (λ (h : Head). h.rep) c7.get-head.ensures) ∙ c5.if1.false)
+    ∙ methods-ref (stands_at rs a.n) a.m x (sym (ap (λ (h : Head). h.rep) c7.get-head.ensures) ∙ c5.if1.false)
 
 add-j : tie.Need-overflow-add-j invariant-loop decreases-loop
 add-j c = search rules
@@ -77,12 +77,12 @@ loop-again c =
     let a = c8.args in
     let p = c4.loop in
     let rs = types_in a.b.now in
-    let x = get_or rs a.i noRawType in
-    let f : ℕ → Method = λ j. methodOf (get_or x.methods j noRawMethod) in
+    let x = get_or rs a.i no_raw_type in
+    let f : ℕ → Method = λ j. method_of (get_or x.methods j no_raw_method) in
     let l : length (from a.m 0 f) ≡ a.m = length_from f a.m 0 in (
       omega arith,
-      all-next (stands (standsAt rs a.n)) (from a.m 0 f) p.j (methodOf noRawMethod) p.invariant.1 (omega arith)
-          (ap (stands (standsAt rs a.n)) (from_first f a.m p.j (methodOf noRawMethod) c3.loop-test.true ∙ ap methodOf (sym c2.get-method.ensures))
+      all-next (stands (stands_at rs a.n)) (from a.m 0 f) p.j (method_of no_raw_method) p.invariant.1 (omega arith)
+          (ap (stands (stands_at rs a.n)) (from_first f a.m p.j (method_of no_raw_method) c3.loop-test.true ∙ ap method_of (sym c2.get-method.ensures))
           ∙ sym c.before.method-stands.ensures ∙ not-false c.before.method-stands.result c.if2.false),
     )
 
@@ -91,11 +91,11 @@ returns-3 c =
     let a = c.before.before.before.before.before.args in
     let p = c.before.loop in
     let rs = types_in a.b.now in
-    let x = get_or rs a.i noRawType in
-    let f : ℕ → Method = λ j. methodOf (get_or x.methods j noRawMethod) in
+    let x = get_or rs a.i no_raw_type in
+    let f : ℕ → Method = λ j. method_of (get_or x.methods j no_raw_method) in
     let l : length (from a.m 0 f) ≡ a.m = length_from f a.m 0 in
-    all_done (stands (standsAt rs a.n)) (from a.m 0 f) p.j (methodOf noRawMethod) p.invariant.1 (omega arith)
-    ∙ methods-ref (standsAt rs a.n) a.m x (sym (ap (λ (h : Head). h.rep) c.before.before.before.before.get-head.ensures) ∙ c.before.before.if1.false)
+    all_done (stands (stands_at rs a.n)) (from a.m 0 f) p.j (method_of no_raw_method) p.invariant.1 (omega arith)
+    ∙ methods-ref (stands_at rs a.n) a.m x (sym (ap (λ (h : Head). h.rep) c.before.before.before.before.get-head.ensures) ∙ c.before.before.if1.false)
 
 pub type-stands-spec : {M : Type 1} → statement M
 type-stands-spec =

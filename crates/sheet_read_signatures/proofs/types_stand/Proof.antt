@@ -6,16 +6,16 @@ use lib.ListN.{length, drop}
 use borrow.Author.Rules.{rules}
 use borrow.Author.Tests.{not-true, not-false}
 use Rattle.spec_model.specs.Basics.{all}
-use Rattle.spec_model.specs.Table.{noType}
+use Rattle.spec_model.specs.Table.{no_type}
 use Rattle.table_record.proofs.Tables.{types-to-length, types-to-at}
-use Rattle.table_record.specs.Store.{types_in, typesTo}
+use Rattle.table_record.specs.Store.{types_in, types_to}
 use Rattle.sheet_read_signatures.proofs.Laws.{all-broken, all-next, all_done}
-use Rattle.sheet_read_signatures.specs.Signatures.{typeStands}
+use Rattle.sheet_read_signatures.specs.Signatures.{type_stands}
 use Rattle.sheet_read_signatures.proofs.types_stand.Statement.{statement}
 use Rattle.sheet_read_signatures.proofs.types_stand.Tie as tie
 
 abbrev invariant-loop : tie.invariant-loop
-invariant-loop b n m i₀ i = (i ≤ n) × (all (typeStands (types_in b) n) (typesTo m n n (types_in b)) ≡ all (typeStands (types_in b) n) (drop i (typesTo m n n (types_in b))))
+invariant-loop b n m i₀ i = (i ≤ n) × (all (type_stands (types_in b) n) (types_to m n n (types_in b)) ≡ all (type_stands (types_in b) n) (drop i (types_to m n n (types_in b))))
 
 abbrev decreases-loop : tie.decreases-loop
 decreases-loop b n m i₀ i = n - i
@@ -34,10 +34,10 @@ returns c =
     let a = c4.args in
     let p = c3.loop in
     let rs = types_in a.b.now in
-    let ts = typesTo a.m a.n a.n rs in
+    let ts = types_to a.m a.n a.n rs in
     let l : length ts ≡ a.n = types-to-length a.m a.n rs a.n in
-    all-broken (typeStands rs a.n) ts p.i noType p.invariant.1 (omega arith)
-    (ap (typeStands rs a.n) (types-to-at a.m a.n rs a.n p.i noType c2.loop-test.true) ∙ sym c.before.type-stands.ensures
+    all-broken (type_stands rs a.n) ts p.i no_type p.invariant.1 (omega arith)
+    (ap (type_stands rs a.n) (types-to-at a.m a.n rs a.n p.i no_type c2.loop-test.true) ∙ sym c.before.type-stands.ensures
     ∙ not-true c.before.type-stands.result c.if1.true)
 
 add-i : tie.Need-overflow-add-i invariant-loop decreases-loop
@@ -54,11 +54,11 @@ loop-again c =
     let a = c4.args in
     let p = c3.loop in
     let rs = types_in a.b.now in
-    let ts = typesTo a.m a.n a.n rs in
+    let ts = types_to a.m a.n a.n rs in
     let l : length ts ≡ a.n = types-to-length a.m a.n rs a.n in (
       omega arith,
-      all-next (typeStands rs a.n) ts p.i noType p.invariant.1 (omega arith)
-          (ap (typeStands rs a.n) (types-to-at a.m a.n rs a.n p.i noType c2.loop-test.true) ∙ sym c.before.type-stands.ensures
+      all-next (type_stands rs a.n) ts p.i no_type p.invariant.1 (omega arith)
+          (ap (type_stands rs a.n) (types-to-at a.m a.n rs a.n p.i no_type c2.loop-test.true) ∙ sym c.before.type-stands.ensures
           ∙ not-false c.before.type-stands.result c.if1.false),
     )
 
@@ -67,9 +67,9 @@ returns-2 c =
     let a = c.before.before.args in
     let p = c.before.loop in
     let rs = types_in a.b.now in
-    let ts = typesTo a.m a.n a.n rs in
+    let ts = types_to a.m a.n a.n rs in
     let l : length ts ≡ a.n = types-to-length a.m a.n rs a.n in
-    all_done (typeStands rs a.n) ts p.i noType p.invariant.1 (omega arith)
+    all_done (type_stands rs a.n) ts p.i no_type p.invariant.1 (omega arith)
 
 pub types-stand-spec : {M : Type 1} → statement M
 types-stand-spec =

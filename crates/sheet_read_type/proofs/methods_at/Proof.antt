@@ -9,14 +9,14 @@ use borrow.Author.Rules.{rules}
 use Rattle.spec_sheet.specs.Lines.{split, times, got}
 use Rattle.sheet_read_type.proofs.Readings.{read_no, read_ok, refused-is, times-done, times-stop, times-next}
 use Rattle.sheet_read_type.proofs.Stored.{methods-add, methods-blank, methods-put}
-use Rattle.sheet_read_type.specs.View.{methodIs, MethodsExact, eachMethod}
+use Rattle.sheet_read_type.specs.View.{method_is, MethodsExact, each_method}
 use Rattle.sheet_read_type.proofs.methods_at.Statement.{statement}
 use Rattle.sheet_read_type.proofs.methods_at.Tie as tie
-use Rattle.spec_model.specs.Table.{maxMethods}
+use Rattle.spec_model.specs.Table.{max_methods}
 
 abbrev invariant-loop : tie.invariant-loop
-invariant-loop s m n list₀ j₀ at₀ list j at = (j ≤ m) × (length list ≡ maxMethods) × MethodsExact j list ×
-    (times (eachMethod n) (m - j) j (map methodIs (take j list)) at (split (drop at s)) ≡ times (eachMethod n) m 0 [] at₀ (split (drop at₀ s)))
+invariant-loop s m n list₀ j₀ at₀ list j at = (j ≤ m) × (length list ≡ max_methods) × MethodsExact j list ×
+    (times (each_method n) (m - j) j (map method_is (take j list)) at (split (drop at s)) ≡ times (each_method n) m 0 [] at₀ (split (drop at₀ s)))
 
 abbrev decreases-loop : tie.decreases-loop
 decreases-loop s m n list₀ j₀ at₀ list j at = m - j
@@ -28,7 +28,7 @@ loop-holds : tie.Need-loop-init invariant-loop decreases-loop
 loop-holds c =
     let a = c.before.before.args in
     let e : a.m - 0 ≡ a.m = omega arith in
-    (omega arith, refl, methods-blank c.empty.result c.empty.ensures, ap (λ (z : ℕ). times (eachMethod a.n) z 0 [] a.c.at (split (drop a.c.at a.s.now))) e)
+    (omega arith, refl, methods-blank c.empty.result c.empty.ensures, ap (λ (z : ℕ). times (each_method a.n) z 0 [] a.c.at (split (drop a.c.at a.s.now))) e)
 
 next-method-requires : tie.Need-next-method-requires invariant-loop decreases-loop
 next-method-requires c κs = search rules
@@ -44,8 +44,8 @@ returns c =
     let g = c3.next-method in
     let rs = split (drop p.at a.s.now) in (
       refused-is a.s.now g.result.refusal g.result.refusal g.result.next.at g.result.next.at _ _ c.if1.true refl refl
-          (times-stop (eachMethod a.n) a.m p.j p.j (map methodIs (take p.j p.list)) p.at rs _ p.invariant.3 c4.loop-test.true g.result.refusal g.result.next.at
-          (read_no a.s.now g.result.refusal (methodIs g.result.m) g.result.next.at _ g.ensures.0 c.if1.true)),
+          (times-stop (each_method a.n) a.m p.j p.j (map method_is (take p.j p.list)) p.at rs _ p.invariant.3 c4.loop-test.true g.result.refusal g.result.next.at
+          (read_no a.s.now g.result.refusal (method_is g.result.m) g.result.next.at _ g.ensures.0 c.if1.true)),
       (λ z. absurd (c.if1.true z), p.invariant.1),
     )
 
@@ -71,9 +71,9 @@ loop-again c =
       omega arith,
       length-set p.list p.j _ ∙ p.invariant.1,
       methods-put p.list p.j g.result.m p.invariant.1 (omega arith) g.ensures.1 p.invariant.2,
-      times-next (eachMethod a.n) a.m p.j p.j (map methodIs (take p.j p.list)) p.at rs _ p.invariant.3 c.before.before.before.before.before.loop-test.true
-          (methodIs g.result.m) g.result.next.at (split (drop g.result.next.at a.s.now)) (p.j + 1) _
-          (read_ok a.s.now g.result.refusal (methodIs g.result.m) g.result.next.at _ g.ensures.0 c.before.if1.false) (add-one p.j)
+      times-next (each_method a.n) a.m p.j p.j (map method_is (take p.j p.list)) p.at rs _ p.invariant.3 c.before.before.before.before.before.loop-test.true
+          (method_is g.result.m) g.result.next.at (split (drop g.result.next.at a.s.now)) (p.j + 1) _
+          (read_ok a.s.now g.result.refusal (method_is g.result.m) g.result.next.at _ g.ensures.0 c.before.if1.false) (add-one p.j)
           (methods-add p.list p.j g.result.m k),
     )
 
@@ -82,8 +82,8 @@ returns-2 c =
     let a = c.before.before.before.before.args in
     let p = c.before.loop in
     let e : p.j ≡ a.m = omega arith in (
-      ap (λ (z : ℕ). got (map methodIs (take z p.list)) p.at (split (drop p.at a.s.now))) (sym e)
-          ∙ times-done (eachMethod a.n) a.m p.j p.j (map methodIs (take p.j p.list)) p.at (split (drop p.at a.s.now)) _ p.invariant.3 c.loop-test.false,
+      ap (λ (z : ℕ). got (map method_is (take z p.list)) p.at (split (drop p.at a.s.now))) (sym e)
+          ∙ times-done (each_method a.n) a.m p.j p.j (map method_is (take p.j p.list)) p.at (split (drop p.at a.s.now)) _ p.invariant.3 c.loop-test.false,
       (λ z. subst (λ (n : ℕ). MethodsExact n p.list) e p.invariant.2, p.invariant.1),
     )
 

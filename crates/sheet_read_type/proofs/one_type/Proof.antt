@@ -3,11 +3,11 @@ use mathlib.Core.Path.{ap, sym, ◌∙◌}
 use native.Mathlib.Omega.{arith}
 use lib.ListN.{drop}
 use borrow.Author.Rules.{rules}
-use Rattle.spec_model.specs.Check.{repOf}
+use Rattle.spec_model.specs.Check.{rep_of}
 use Rattle.spec_model.specs.Table.{Ty}
 use Rattle.spec_sheet.specs.Lines.{split, got}
 use Rattle.spec_sheet.specs.Sheet.{members}
-use Rattle.sheet_read_type.proofs.Readings.{refused-is, got-no, got-ok, got-refusal, got-at-most, type-of, afterNumber, afterRep, step-no, step_ok, members-ref, members-number}
+use Rattle.sheet_read_type.proofs.Readings.{refused-is, got-no, got-ok, got-refusal, got-at-most, type-of, after_number, after_rep, step-no, step_ok, members-ref, members-number}
 use Rattle.sheet_read_type.proofs.one_type.Statement.{statement}
 use Rattle.sheet_read_type.proofs.one_type.Tie as tie
 
@@ -33,7 +33,7 @@ returns c =
     let nz = got-refusal a.i x.result k c.before.before.x.given.1 x.ensures.1 in
     let r = c.no-type in (
       refused-is s r.result.refusal k r.result.next.at a.c.at _ _ nz r.ensures.0 r.ensures.1
-          (step-no (afterNumber a.m a.cats a.n) (type-of a.m a.cats a.n a.i a.c.at rs)
+          (step-no (after_number a.m a.cats a.n) (type-of a.m a.cats a.n a.i a.c.at rs)
           (got-no (λ n. n) s a.c.at x.result _ x.ensures.0 k c.before.before.x.given.1)),
       λ z. absurd (nz (sym r.ensures.0 ∙ z)),
     )
@@ -102,7 +102,7 @@ returns-2 c =
     let y = c10.next-rep in
     let yn = c8.r2.given.0.0 in
     let yc = c8.r2.given.0.1.0 in
-    let ye = got-ok repOf s xc.at y.result _ y.ensures.0 yn yc c8.r2.given.1 in
+    let ye = got-ok rep_of s xc.at y.result _ y.ensures.0 yn yc c8.r2.given.1 in
     let z = c5.next-number2 in
     let zn = c3.y2.given.0.0 in
     let zc = c3.y2.given.0.1.0 in
@@ -110,8 +110,8 @@ returns-2 c =
     let ze = got-ok (λ n. n) s yc.at z.result _ z.ensures.0 zn zc c3.y2.given.1 in
     let g = c.ref-type in (
       g.ensures.0 a.i c17.requires.0 ∙ members-ref a.m a.n yn zn zc.at zr c.before.if1.true
-          ∙ step_ok (members a.m a.n (repOf yn))
-          (step_ok (afterRep a.m a.cats a.n) (step_ok (afterNumber a.m a.cats a.n) (type-of a.m a.cats a.n a.i a.c.at rs) xe) ye) ze,
+          ∙ step_ok (members a.m a.n (rep_of yn))
+          (step_ok (after_rep a.m a.cats a.n) (step_ok (after_number a.m a.cats a.n) (type-of a.m a.cats a.n a.i a.c.at rs) xe) ye) ze,
       g.ensures.1 a.i c17.requires.0,
     )
 
@@ -142,8 +142,8 @@ returns-3 c =
     let nz = got-refusal 2 y.result k c.before.before.r.given.1 y.ensures.1 in
     let r = c.no-type2 in (
       refused-is s r.result.refusal k r.result.next.at xc.at _ _ nz r.ensures.0 r.ensures.1
-          (step-no (afterRep a.m a.cats a.n) (step_ok (afterNumber a.m a.cats a.n) (type-of a.m a.cats a.n a.i a.c.at rs) xe)
-          (got-no repOf s xc.at y.result _ y.ensures.0 k c.before.before.r.given.1)),
+          (step-no (after_rep a.m a.cats a.n) (step_ok (after_number a.m a.cats a.n) (type-of a.m a.cats a.n a.i a.c.at rs) xe)
+          (got-no rep_of s xc.at y.result _ y.ensures.0 k c.before.before.r.given.1)),
       λ z. absurd (nz (sym r.ensures.0 ∙ z)),
     )
 
@@ -166,14 +166,14 @@ returns-4 c =
     let y = c9.next-rep in
     let yn = c7.r2.given.0.0 in
     let yc = c7.r2.given.0.1.0 in
-    let ye = got-ok repOf s xc.at y.result _ y.ensures.0 yn yc c7.r2.given.1 in
+    let ye = got-ok rep_of s xc.at y.result _ y.ensures.0 yn yc c7.r2.given.1 in
     let z = c4.next-number2 in
     let k = c2.y.given.0.0 in
     let nz = got-refusal a.cats z.result k c2.y.given.1 z.ensures.1 in
     let r = c.no-type3 in (
       refused-is s r.result.refusal k r.result.next.at yc.at _ _ nz r.ensures.0 r.ensures.1
-          (step-no (members a.m a.n (repOf yn))
-          (step_ok (afterRep a.m a.cats a.n) (step_ok (afterNumber a.m a.cats a.n) (type-of a.m a.cats a.n a.i a.c.at rs) xe) ye)
+          (step-no (members a.m a.n (rep_of yn))
+          (step_ok (after_rep a.m a.cats a.n) (step_ok (after_number a.m a.cats a.n) (type-of a.m a.cats a.n a.i a.c.at rs) xe) ye)
           (got-no (λ n. n) s yc.at z.result _ z.ensures.0 k c2.y.given.1)),
       λ z. absurd (nz (sym r.ensures.0 ∙ z)),
     )
@@ -197,7 +197,7 @@ returns-5 c =
     let y = c10.next-rep in
     let yn = c8.r2.given.0.0 in
     let yc = c8.r2.given.0.1.0 in
-    let ye = got-ok repOf s xc.at y.result _ y.ensures.0 yn yc c8.r2.given.1 in
+    let ye = got-ok rep_of s xc.at y.result _ y.ensures.0 yn yc c8.r2.given.1 in
     let z = c5.next-number2 in
     let zn = c3.y2.given.0.0 in
     let zc = c3.y2.given.0.1.0 in
@@ -206,8 +206,8 @@ returns-5 c =
     let g = c.number-type in (
       ap (λ (t : Ty). got t zc.at zr) (g.ensures.0 a.m a.n a.i c17.requires.0)
           ∙ members-number a.m a.n yn zn zc.at zr c.before.if1.false
-          ∙ step_ok (members a.m a.n (repOf yn))
-          (step_ok (afterRep a.m a.cats a.n) (step_ok (afterNumber a.m a.cats a.n) (type-of a.m a.cats a.n a.i a.c.at rs) xe) ye) ze,
+          ∙ step_ok (members a.m a.n (rep_of yn))
+          (step_ok (after_rep a.m a.cats a.n) (step_ok (after_number a.m a.cats a.n) (type-of a.m a.cats a.n a.i a.c.at rs) xe) ye) ze,
       λ z. g.ensures.1 a.m a.n a.i c17.requires.0,
     )
 

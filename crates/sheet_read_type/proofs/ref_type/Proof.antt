@@ -7,13 +7,13 @@ use lib.ListN.{length, drop, take, length-map}
 use borrow.Author.Rules.{rules}
 use Rattle.spec_model.specs.Table.{Ty}
 use Rattle.law_table.proofs.Exact.{sheet-key, ref-exact}
-use Rattle.table_record.specs.Store.{rawOf, rawMethod}
+use Rattle.table_record.specs.Store.{raw_of, raw_method}
 use Rattle.table_record.specs.declared.Head.{Head}
 use Rattle.spec_sheet.specs.Lines.{split, got}
 use Rattle.sheet_read_line.specs.View.{yes_of}
-use Rattle.sheet_read_type.proofs.Readings.{read_no, read_ok, refused-is, got-no, got-ok, got-refusal, got-at-most, members-of, afterOwn, afterMethods, step-no, step_ok}
+use Rattle.sheet_read_type.proofs.Readings.{read_no, read_ok, refused-is, got-no, got-ok, got-refusal, got-at-most, members-of, after_own, after_methods, step-no, step_ok}
 use Rattle.sheet_read_type.proofs.Stored.{methods-all, ref-means}
-use Rattle.sheet_read_type.specs.View.{methodIs}
+use Rattle.sheet_read_type.specs.View.{method_is}
 use Rattle.sheet_read_type.proofs.ref_type.Statement.{statement}
 use Rattle.sheet_read_type.proofs.ref_type.Tie as tie
 
@@ -46,8 +46,8 @@ returns c =
     let g = c.before.before.before.before.methods-at in
     let r = c.no-type2 in (
       λ i h. refused-is s r.result.refusal g.result.refusal r.result.next.at g.result.next.at _ _ c.before.if1.true r.ensures.0 r.ensures.1
-          (step-no (afterMethods a.cat (yes_of on)) (step_ok (afterOwn a.m a.n a.cat) (members-of a.m a.n a.cat a.c.at (split (drop a.c.at s))) oe)
-          (read_no s g.result.refusal (map methodIs (take a.m g.result.list)) g.result.next.at _ g.ensures.0 c.before.if1.true)),
+          (step-no (after_methods a.cat (yes_of on)) (step_ok (after_own a.m a.n a.cat) (members-of a.m a.n a.cat a.c.at (split (drop a.c.at s))) oe)
+          (read_no s g.result.refusal (map method_is (take a.m g.result.list)) g.result.next.at _ g.ensures.0 c.before.if1.true)),
       λ i h z. absurd (c.before.if1.true (sym r.ensures.0 ∙ z)),
     )
 
@@ -67,7 +67,7 @@ returns-2 c =
     let r = c.no-type in
     let nz = got-refusal 1 o.result k c.before.before.o.given.1 o.ensures.1 in (
       λ i h. refused-is s r.result.refusal k r.result.next.at a.c.at _ _ nz r.ensures.0 r.ensures.1
-          (step-no (afterOwn a.m a.n a.cat) (members-of a.m a.n a.cat a.c.at (split (drop a.c.at s)))
+          (step-no (after_own a.m a.n a.cat) (members-of a.m a.n a.cat a.c.at (split (drop a.c.at s)))
           (got-no yes_of s a.c.at o.result _ o.ensures.0 k c.before.before.o.given.1)),
       λ i h z. absurd (nz (sym r.ensures.0 ∙ z)),
     )
@@ -89,14 +89,14 @@ returns-3 c =
     let list = g.result.list in
     let few : a.m ≤ length list = omega (arith, g.ensures.1.1, c11.requires.1) in
     let head = c.sheet-head.ensures in
-    let x = rawOf (record { head = c.sheet-head.result; methods = list }) in
+    let x = raw_of (record { head = c.sheet-head.result; methods = list }) in
     let exact = g.ensures.1.0 c2.if1.false in (
       λ i h. ap (λ (z : Ty). got z g.result.next.at (split (drop g.result.next.at s)))
-          (ref-means a.m a.n i x h a.cat on (map methodIs (take a.m list)) (ap (λ (z : Head). z.rep) head) (ap (λ (z : Head). z.cat) head) (ap (λ (z : Head). z.own) head)
+          (ref-means a.m a.n i x h a.cat on (map method_is (take a.m list)) (ap (λ (z : Head). z.rep) head) (ap (λ (z : Head). z.cat) head) (ap (λ (z : Head). z.own) head)
           (methods-all list a.m few))
-          ∙ step_ok (afterMethods a.cat (yes_of on)) (step_ok (afterOwn a.m a.n a.cat) (members-of a.m a.n a.cat a.c.at (split (drop a.c.at s))) oe)
-          (read_ok s g.result.refusal (map methodIs (take a.m list)) g.result.next.at _ g.ensures.0 c2.if1.false),
-      λ i h z. ref-exact a.m a.n i x (length-map list rawMethod ∙ g.ensures.1.1)
+          ∙ step_ok (after_methods a.cat (yes_of on)) (step_ok (after_own a.m a.n a.cat) (members-of a.m a.n a.cat a.c.at (split (drop a.c.at s))) oe)
+          (read_ok s g.result.refusal (map method_is (take a.m list)) g.result.next.at _ g.ensures.0 c2.if1.false),
+      λ i h z. ref-exact a.m a.n i x (length-map list raw_method ∙ g.ensures.1.1)
           (sheet-key a.n i x h (ap (λ (z : Head). z.kind) head) (ap (λ (z : Head). z.left) head) (ap (λ (z : Head). z.right) head))
           (ap (λ (z : Head). z.rep) head)
           (omega (arith, ap (λ (z : Head). z.own) head, got-at-most 1 o.result on oc c7.o2.given.1 o.ensures.1))

@@ -5,7 +5,7 @@ use Rattle.spec_sheet.specs.Text.{text}
 use Rattle.text_write.proofs.Written.{short-is, length-is}
 use Rattle.sheet_write.proofs.Results.{fit_is}
 use Rattle.table_check.proofs.Accepted.{accepted-limits}
-use Rattle.table_record.specs.Store.{rawTable}
+use Rattle.table_record.specs.Store.{raw_table}
 use borrow.Author.Rules.{rules}
 use Rattle.sheet_write.proofs.write_checked.Statement.{statement}
 use Rattle.sheet_write.proofs.write_checked.Tie as tie
@@ -27,7 +27,7 @@ returns c =
     let a' = c.before.before.before.before.before.before.args in
     let pre = c.before.before.before.before.before.before.requires in
     let put-sheet = c.before.before.before.put-sheet in
-    let a = a' in let r = rawTable a.b.now a.l.now a.c in
+    let a = a' in let r = raw_table a.b.now a.l.now a.c in
     short-is (text (table_of r)) a.buf.now put-sheet.ensures c.if1.true ∙ fit_is r a.buf.now pre
 
 put-sheet-requires-2 : tie.Need-put-sheet-requires-2
@@ -46,7 +46,7 @@ returns-2 c =
     let put-sheet = c.before.before.before.before.before.before.before.put-sheet in
     let if1 = c.before.before.before.before.if1 in
     let put-sheet2 = c.before.before.put-sheet2 in
-    let a = a' in let r = rawTable a.b.now a.l.now a.c in
+    let a = a' in let r = raw_table a.b.now a.l.now a.c in
     length-is (text (table_of r)) a.buf.now put-sheet.ensures if1.false put-sheet2.ensures ∙ fit_is r a.buf.now pre
 
 pub write-checked-spec : {M : Type 1} → statement M

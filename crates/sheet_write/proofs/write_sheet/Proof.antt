@@ -1,6 +1,6 @@
 -- Any table: 2 exactly where the check fails, and the buffer stays (`unfit-is`); else `write_checked` answers.
 use Rattle.sheet_write.proofs.Results.{unfit-is}
-use Rattle.table_record.specs.Store.{rawTable}
+use Rattle.table_record.specs.Store.{raw_table}
 use mathlib.Core.Path.{sym, ◌∙◌}
 use borrow.Author.Rules.{rules}
 use Rattle.sheet_write.proofs.write_sheet.Statement.{statement}
@@ -19,7 +19,7 @@ returns : tie.Need-returns
 returns c = search rules
 
 returns-2 : tie.Need-returns-2
-returns-2 c = let a = c.before.before.before.args in unfit-is (rawTable a.b.now a.l.now a.c) a.buf.now (sym c.before.table-fits.ensures ∙ c.if1.false)
+returns-2 c = let a = c.before.before.before.args in unfit-is (raw_table a.b.now a.l.now a.c) a.buf.now (sym c.before.table-fits.ensures ∙ c.if1.false)
 
 pub write-sheet-spec : {M : Type 1} → statement M
 write-sheet-spec =

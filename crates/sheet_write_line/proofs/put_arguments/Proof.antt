@@ -10,7 +10,7 @@ use native.Mathlib.Omega.{arith}
 use borrow.Author.Rules.{rules}
 use Rattle.sheet_write_line.proofs.put_arguments.Statement.{statement}
 use Rattle.sheet_write_line.proofs.put_arguments.Tie as tie
-use Rattle.spec_model.specs.Records.{argumentSlots}
+use Rattle.spec_model.specs.Records.{argument_slots}
 
 abbrev invariant-loop : tie.invariant-loop
 invariant-loop buf₀ count args n at₀ i₀ buf at i = (i ≤ n) × (at ≤ 36 * i) × Filled buf₀ buf (commas (take i args)) at
@@ -67,7 +67,7 @@ loop-again c =
     let wide = c.before.before.before.before.before.wide in
     let least2 = c.before.before.before.before.least2 in
     let put-argument = c.before.before.put-argument in
-    let l : length a.t3 ≡ argumentSlots = search rules in
+    let l : length a.t3 ≡ argument_slots = search rules in
     let next = argument-next a.t3 loop.i wide.result (omega (arith, least.ensures.2, loop-test.true)) wide.ensures.0 in (
       omega arith,
       omega (arith, loop.invariant.1, put-argument.ensures.1),
@@ -82,7 +82,7 @@ returns c =
     let a = c.before.before.before.before.args in
     let least = c.before.before.least in
     let loop = c.before.loop in
-    let l : length a.t3 ≡ argumentSlots = search rules in
+    let l : length a.t3 ≡ argument_slots = search rules in
     let n = least.result in
     let e : loop.i ≡ n = omega (arith, loop.invariant.0, c.loop-test.false) in
     (fill_is (ap (λ z. commas (take z a.t3)) e ∙ ap commas (slots a.t3 a.count n l least.ensures.0)) loop.invariant.2, omega (arith, least.ensures.2, loop.invariant.0, loop.invariant.1))

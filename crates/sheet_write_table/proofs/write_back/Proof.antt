@@ -1,6 +1,6 @@
 -- The types' lines, and the last line in the rest of the buffer (`lines_rest`).
 use Rattle.text_write.proofs.Laws.{lines_rest}
-use Rattle.sheet_write_table.specs.Parts.{backLines}
+use Rattle.sheet_write_table.specs.Parts.{back_lines}
 use native.Mathlib.Omega.{arith}
 use borrow.Author.Rules.{rules}
 use Rattle.sheet_write_table.proofs.write_back.Statement.{statement}
@@ -34,7 +34,7 @@ same_length : tie.Need-same-length
 same_length c = search rules
 
 returns : tie.Need-returns
-unfolding backLines
+unfolding back_lines
 returns c =
     let write-types = c.before.before.before.before.before.before.before.before.write-types in
     let least = c.before.before.before.before.before.least in

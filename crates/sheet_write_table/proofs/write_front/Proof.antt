@@ -1,7 +1,7 @@
 -- The counts, the categories and the number of types, written one behind the other in the rest of the buffer (`lines_rest`).
 use Rattle.text_write.proofs.Laws.{lines_rest, lines_are}
-use Rattle.sheet_write_table.specs.Parts.{underLines, countLines, frontLines}
-use Rattle.spec_sheet.specs.Text.{numberText}
+use Rattle.sheet_write_table.specs.Parts.{under_lines, count_lines, front_lines}
+use Rattle.spec_sheet.specs.Text.{number_text}
 use Rattle.spec_sheet.specs.Lines.{bytes}
 use mathlib.Core.List.{[], ◌∷◌, append_assoc}
 use native.Mathlib.Omega.{arith}
@@ -55,7 +55,7 @@ same_length : tie.Need-same-length
 same_length c = search rules
 
 returns : tie.Need-returns
-unfolding frontLines
+unfolding front_lines
 returns c =
     let a' = c.before.before.before.before.before.before.before.before.before.before.before.before.before.before.before.before.args in
     let write-counts = c.before.before.before.before.before.before.before.before.before.before.before.before.before.write-counts in
@@ -64,7 +64,7 @@ returns c =
     let least2 = c.before.before.before.before.before.least2 in
     let write-number = c.before.before.write-number in
     let a = a' in (
-      lines_are (append_assoc (countLines a.c) (underLines a.l.now a.c.cats) (numberText (bytes "types=") a.c.sheet ∷ []))
+      lines_are (append_assoc (count_lines a.c) (under_lines a.l.now a.c.cats) (number_text (bytes "types=") a.c.sheet ∷ []))
           (lines_rest (lines_rest write-counts.ensures.0 least.ensures.0 write-unders.ensures.0) least2.ensures.0 write-number.ensures.0),
       omega (arith, write-counts.ensures.1, write-unders.ensures.1, write-number.ensures.1),
     )

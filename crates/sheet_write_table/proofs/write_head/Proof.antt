@@ -1,8 +1,8 @@
 -- Number, representation and category of a type, written one behind the other in the rest of the buffer (`lines_rest`).
 use Rattle.text_write.proofs.Laws.{lines_rest, lines_are}
-use Rattle.spec_sheet.specs.Text.{numberText, repText}
+use Rattle.spec_sheet.specs.Text.{number_text, rep_text}
 use Rattle.spec_sheet.specs.Lines.{bytes}
-use Rattle.spec_model.specs.Check.{repOf}
+use Rattle.spec_model.specs.Check.{rep_of}
 use mathlib.Core.List.{[], ◌∷◌}
 use mathlib.Core.Path.{ap}
 use native.Mathlib.Omega.{arith}
@@ -71,7 +71,7 @@ returns c =
     let wide = c.before.before.before.wide in
     let write-number2 = c.before.before.write-number2 in
     let h = a.h in (
-      lines_are (ap (λ z. numberText (bytes "type=") a.i ∷ repText (repOf h.rep) ∷ numberText (bytes "cat=") z ∷ []) wide.ensures.0)
+      lines_are (ap (λ z. number_text (bytes "type=") a.i ∷ rep_text (rep_of h.rep) ∷ number_text (bytes "cat=") z ∷ []) wide.ensures.0)
           (lines_rest (lines_rest write-number.ensures.0 least.ensures.0 write-rep.ensures.0) least2.ensures.0 write-number2.ensures.0),
       omega (arith, write-number.ensures.1, write-rep.ensures.1, write-number2.ensures.1),
     )

@@ -1,7 +1,7 @@
 -- The loop has written the lines of the first j methods, and one more goes into the rest of the buffer (`lines_rest`, `method-next`).
 use Rattle.sheet_write_table.proofs.Laws.{method-next, methods-all, methods-none}
 use Rattle.text_write.proofs.Laws.{lines_none, lines_rest, lines_are}
-use Rattle.sheet_write_table.specs.Parts.{methodLines}
+use Rattle.sheet_write_table.specs.Parts.{method_lines}
 use Rattle.text_write.specs.Fill.{Lined}
 use Prim.Native.Nat.{◌-◌, ◌*◌, ◌≤◌}
 use native.Mathlib.Omega.{arith}
@@ -10,7 +10,7 @@ use Rattle.sheet_write_table.proofs.write_methods.Statement.{statement}
 use Rattle.sheet_write_table.proofs.write_methods.Tie as tie
 
 abbrev invariant-loop : tie.invariant-loop
-invariant-loop buf₀ b i methods at₀ j₀ buf at j = (j ≤ methods) × (at ≤ 182 * j) × Lined buf₀ buf (methodLines b i j) at
+invariant-loop buf₀ b i methods at₀ j₀ buf at j = (j ≤ methods) × (at ≤ 182 * j) × Lined buf₀ buf (method_lines b i j) at
 
 abbrev decreases-loop : tie.decreases-loop
 decreases-loop buf₀ b i methods at₀ j₀ buf at j = methods - j

@@ -1,7 +1,7 @@
 -- The loop has written the lines of the first i types, and one more's go into the rest of the buffer (`lines_rest`, `type-next`).
 use Rattle.sheet_write_table.proofs.Laws.{type-next, types-all, types-none}
 use Rattle.text_write.proofs.Laws.{lines_none, lines_rest, lines_are}
-use Rattle.sheet_write_table.specs.Parts.{typeLinesTo}
+use Rattle.sheet_write_table.specs.Parts.{type_lines_to}
 use Rattle.text_write.specs.Fill.{Lined}
 use Prim.Native.Nat.{◌-◌, ◌*◌, ◌≤◌}
 use native.Mathlib.Omega.{arith}
@@ -10,7 +10,7 @@ use Rattle.sheet_write_table.proofs.write_types.Statement.{statement}
 use Rattle.sheet_write_table.proofs.write_types.Tie as tie
 
 abbrev invariant-loop : tie.invariant-loop
-invariant-loop buf₀ b c n at₀ i₀ buf at i = (i ≤ n) × (at ≤ 3020 * i) × Lined buf₀ buf (typeLinesTo b c i) at
+invariant-loop buf₀ b c n at₀ i₀ buf at i = (i ≤ n) × (at ≤ 3020 * i) × Lined buf₀ buf (type_lines_to b c i) at
 
 abbrev decreases-loop : tie.decreases-loop
 decreases-loop buf₀ b c n at₀ i₀ buf at i = n - i

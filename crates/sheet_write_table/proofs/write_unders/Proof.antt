@@ -1,7 +1,7 @@
 -- The loop has written the lines of the first i categories, and one more goes into the rest of the buffer (`lines_rest`, `under_next`).
 use Rattle.sheet_write_table.proofs.Laws.{under_next, unders-all, unders-none}
 use Rattle.text_write.proofs.Laws.{lines_none, lines_rest, lines_are}
-use Rattle.sheet_write_table.specs.Parts.{underLines}
+use Rattle.sheet_write_table.specs.Parts.{under_lines}
 use Rattle.text_write.specs.Fill.{Lined}
 use Prim.Native.Nat.{◌-◌, ◌*◌, ◌≤◌}
 use native.Mathlib.Omega.{arith}
@@ -10,7 +10,7 @@ use Rattle.sheet_write_table.proofs.write_unders.Statement.{statement}
 use Rattle.sheet_write_table.proofs.write_unders.Tie as tie
 
 abbrev invariant-loop : tie.invariant-loop
-invariant-loop buf₀ l cats at₀ i₀ buf at i = (i ≤ cats) × (at ≤ 73 * i) × Lined buf₀ buf (underLines l i) at
+invariant-loop buf₀ l cats at₀ i₀ buf at i = (i ≤ cats) × (at ≤ 73 * i) × Lined buf₀ buf (under_lines l i) at
 
 abbrev decreases-loop : tie.decreases-loop
 decreases-loop buf₀ l cats at₀ i₀ buf at i = cats - i

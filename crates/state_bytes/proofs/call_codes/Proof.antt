@@ -2,19 +2,19 @@
 use mathlib.Core.Path.{◌≡◌, sym, ◌∙◌}
 use Prim.Native.Nat.{◌+◌, ◌*◌, ◌-◌, ◌≤◌}
 use lib.ListN.{get_or}
-use Rattle.table_check_links.specs.Parts.{eachFrom}
+use Rattle.table_check_links.specs.Parts.{each_from}
 use Rattle.table_check_links.proofs.Each.{rest-next, rest-broken, rest_end}
-use Rattle.state_bytes.specs.Records.{callCodes}
-use Rattle.state_bytes.proofs.Codes.{CallFits, calls-each, call_fits, calls-past, too_large, small-enough}
+use Rattle.state_bytes.specs.Records.{call_codes}
+use Rattle.state_bytes.proofs.Codes.{CallFits, calls-each, call-fits, calls-past, too_large, small-enough}
 use native.Mathlib.Omega.{arith}
 use borrow.Author.Rules.{rules}
 use Rattle.state_bytes.proofs.call_codes.Statement.{statement}
 use Rattle.state_bytes.proofs.call_codes.Tie as tie
-use Rattle.state_bytes.specs.Flat.{callSize}
-use Rattle.spec_model.specs.Requests.{maxCalls}
+use Rattle.state_bytes.specs.Flat.{call_size}
+use Rattle.spec_model.specs.Requests.{max_calls}
 
 abbrev invariant-loop : tie.invariant-loop
-invariant-loop b count j₀ j = (j ≤ count) × (j ≤ maxCalls) × (callCodes b count ≡ eachFrom (count - j) j (CallFits b))
+invariant-loop b count j₀ j = (j ≤ count) × (j ≤ max_calls) × (call_codes b count ≡ each_from (count - j) j (CallFits b))
 
 abbrev decreases-loop : tie.decreases-loop
 decreases-loop b count j₀ j = count - j
@@ -43,8 +43,8 @@ returns-2 c =
     sym
     (l.invariant.2 ∙ rest-broken (CallFits c.before.before.before.before.before.args.b.now) c.before.before.before.before.before.args.count l.j
     c.before.before.before.loop-test.true
-    (call_fits c.before.before.before.before.before.args.b.now l.j (omega (arith, l.invariant.1, c.before.before.if1.false))
-    ∙ too_large (get_or c.before.before.before.before.before.args.b.now (c.before.before.before.before.loop.j * callSize + 3) 0) c.if2.true))
+    (call-fits c.before.before.before.before.before.args.b.now l.j (omega (arith, l.invariant.1, c.before.before.if1.false))
+    ∙ too_large (get_or c.before.before.before.before.before.args.b.now (c.before.before.before.before.loop.j * call_size + 3) 0) c.if2.true))
 
 add-j : tie.Need-overflow-add-j invariant-loop decreases-loop
 add-j c = search rules
@@ -58,8 +58,8 @@ loop-again c = let l = c.before.before.before.before.loop in (
   omega (arith, l.invariant.1, c.before.before.if1.false),
   l.invariant.2 ∙ rest-next (CallFits c.before.before.before.before.before.args.b.now) c.before.before.before.before.before.args.count l.j
       c.before.before.before.loop-test.true
-      (call_fits c.before.before.before.before.before.args.b.now l.j (omega (arith, l.invariant.1, c.before.before.if1.false))
-      ∙ small-enough (get_or c.before.before.before.before.before.args.b.now (c.before.before.before.before.loop.j * callSize + 3) 0) c.if2.false),
+      (call-fits c.before.before.before.before.before.args.b.now l.j (omega (arith, l.invariant.1, c.before.before.if1.false))
+      ∙ small-enough (get_or c.before.before.before.before.before.args.b.now (c.before.before.before.before.loop.j * call_size + 3) 0) c.if2.false),
 )
 
 returns-3 : tie.Need-returns-3 invariant-loop decreases-loop

@@ -3,16 +3,16 @@ use mathlib.Core.Path.{◌≡◌, refl, ◌∙◌}
 use Prim.Native.Nat.{◌-◌, ◌≤◌}
 use lib.ListN.{length, length-map}
 use Rattle.state_bytes.proofs.Rows.{Rows, rows_none, rows_more}
-use Rattle.state_bytes.proofs.Laws.{callRow, below-4, next-4, calls-written}
+use Rattle.state_bytes.proofs.Laws.{call_row, below-4, next-4, calls-written}
 use native.Mathlib.Omega.{arith}
 use borrow.Author.Rules.{rules}
 use Rattle.state_bytes.proofs.calls_to.Statement.{statement}
 use Rattle.state_bytes.proofs.calls_to.Tie as tie
-use Rattle.state_bytes.specs.Flat.{callSize, callsSize}
-use Rattle.spec_model.specs.Requests.{maxCalls}
+use Rattle.state_bytes.specs.Flat.{call_size, calls_size}
+use Rattle.spec_model.specs.Requests.{max_calls}
 
 abbrev invariant-loop : tie.invariant-loop
-invariant-loop b₀ xs n j₀ b j = (j ≤ n) × Rows callSize (callRow xs) b₀ j b
+invariant-loop b₀ xs n j₀ b j = (j ≤ n) × Rows call_size (call_row xs) b₀ j b
 
 abbrev decreases-loop : tie.decreases-loop
 decreases-loop b₀ xs n j₀ b j = n - j
@@ -24,7 +24,7 @@ least-requires : tie.Need-least-requires invariant-loop decreases-loop
 least-requires c κs = search rules
 
 loop-holds : tie.Need-loop-init invariant-loop decreases-loop
-loop-holds c = let a = c.before.before.before.args in (omega arith, rows_none 4 (callRow a.t2) a.b.now)
+loop-holds c = let a = c.before.before.before.args in (omega arith, rows_none 4 (call_row a.t2) a.b.now)
 
 mul-c : tie.Need-overflow-mul-c invariant-loop decreases-loop
 mul-c c = search rules
@@ -45,14 +45,14 @@ loop-again : tie.Need-loop-preserved invariant-loop decreases-loop
 loop-again c =
     let a = c.before.before.before.before.before.before.before.before.args in let w = c.before.before.before.before.loop in (
       omega arith,
-      rows_more callSize (callRow a.t2) a.b.now (λ i. refl) below-4 next-4 callsSize w.j w.b _ c.before.before.before.before.before.before.call-bytes.ensures
+      rows_more call_size (call_row a.t2) a.b.now (λ i. refl) below-4 next-4 calls_size w.j w.b _ c.before.before.before.before.before.before.call-bytes.ensures
           (omega (arith, c.before.before.before.loop-test.true, c.before.before.before.before.before.least.ensures.2)) c.put-call.ensures w.invariant.1,
     )
 
 returns : tie.Need-returns invariant-loop decreases-loop
 returns c =
     let a = c.before.before.before.before.before.args in let w = c.before.loop in let m = c.before.before.least in
-    let l : length a.t2.list ≡ maxCalls = simp length-map at c.before.before.before.before.before.well-formed.1.0.1.1.0.1.0.1 in
+    let l : length a.t2.list ≡ max_calls = simp length-map at c.before.before.before.before.before.well-formed.1.0.1.1.0.1.0.1 in
     let e : w.j ≡ m.result = omega (arith, c.loop-test.false, w.invariant.0) in
     calls-written a.b.now w.b w.j a.t2 l (e ∙ m.ensures.0) (omega (arith, w.invariant.0, m.ensures.1)) w.invariant.1
 

@@ -3,16 +3,16 @@ use mathlib.Core.Path.{◌≡◌, refl, ◌∙◌}
 use Prim.Native.Nat.{◌-◌, ◌≤◌}
 use lib.ListN.{length, length-map}
 use Rattle.state_bytes.proofs.Rows.{Rows, rows_none, rows_more}
-use Rattle.state_bytes.proofs.Laws.{cellRow, below-3, next-3, cells-written}
+use Rattle.state_bytes.proofs.Laws.{cell_row, below-3, next-3, cells-written}
 use native.Mathlib.Omega.{arith}
 use borrow.Author.Rules.{rules}
 use Rattle.state_bytes.proofs.cells_to.Statement.{statement}
 use Rattle.state_bytes.proofs.cells_to.Tie as tie
-use Rattle.state_bytes.specs.Flat.{cellSize, cellsSize}
-use Rattle.spec_model.specs.Requests.{maxCells}
+use Rattle.state_bytes.specs.Flat.{cell_size, cells_size}
+use Rattle.spec_model.specs.Requests.{max_cells}
 
 abbrev invariant-loop : tie.invariant-loop
-invariant-loop b₀ xs n k₀ b k = (k ≤ n) × Rows cellSize (cellRow xs) b₀ k b
+invariant-loop b₀ xs n k₀ b k = (k ≤ n) × Rows cell_size (cell_row xs) b₀ k b
 
 abbrev decreases-loop : tie.decreases-loop
 decreases-loop b₀ xs n k₀ b k = n - k
@@ -24,7 +24,7 @@ least-requires : tie.Need-least-requires invariant-loop decreases-loop
 least-requires c κs = search rules
 
 loop-holds : tie.Need-loop-init invariant-loop decreases-loop
-loop-holds c = let a = c.before.before.before.args in (omega arith, rows_none 3 (cellRow a.t2) a.b.now)
+loop-holds c = let a = c.before.before.before.args in (omega arith, rows_none 3 (cell_row a.t2) a.b.now)
 
 mul-c : tie.Need-overflow-mul-c invariant-loop decreases-loop
 mul-c c = search rules
@@ -45,14 +45,14 @@ loop-again : tie.Need-loop-preserved invariant-loop decreases-loop
 loop-again c =
     let a = c.before.before.before.before.before.before.before.before.args in let w = c.before.before.before.before.loop in (
       omega arith,
-      rows_more cellSize (cellRow a.t2) a.b.now (λ i. refl) below-3 next-3 cellsSize w.k w.b _ c.before.before.before.before.before.before.cell-bytes.ensures
+      rows_more cell_size (cell_row a.t2) a.b.now (λ i. refl) below-3 next-3 cells_size w.k w.b _ c.before.before.before.before.before.before.cell-bytes.ensures
           (omega (arith, c.before.before.before.loop-test.true, c.before.before.before.before.before.least.ensures.2)) c.put-cell.ensures w.invariant.1,
     )
 
 returns : tie.Need-returns invariant-loop decreases-loop
 returns c =
     let a = c.before.before.before.before.before.args in let w = c.before.loop in let m = c.before.before.least in
-    let l : length a.t2.list ≡ maxCells = simp length-map at c.before.before.before.before.before.well-formed.1.0.1.1.0.1.0.1 in
+    let l : length a.t2.list ≡ max_cells = simp length-map at c.before.before.before.before.before.well-formed.1.0.1.1.0.1.0.1 in
     let e : w.k ≡ m.result = omega (arith, c.loop-test.false, w.invariant.0) in
     cells-written a.b.now w.b w.k a.t2 l (e ∙ m.ensures.0) (omega (arith, w.invariant.0, m.ensures.1)) w.invariant.1
 

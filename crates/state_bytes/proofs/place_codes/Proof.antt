@@ -2,19 +2,19 @@
 use mathlib.Core.Path.{◌≡◌, sym, ◌∙◌}
 use Prim.Native.Nat.{◌*◌, ◌-◌, ◌≤◌}
 use lib.ListN.{get_or}
-use Rattle.table_check_links.specs.Parts.{eachFrom}
+use Rattle.table_check_links.specs.Parts.{each_from}
 use Rattle.table_check_links.proofs.Each.{rest-next, rest-broken, rest_end}
-use Rattle.state_bytes.specs.Records.{placeCodes}
+use Rattle.state_bytes.specs.Records.{place_codes}
 use Rattle.state_bytes.proofs.Codes.{PlaceFits, places-each, place-fits, places-past, too_large, small-enough}
 use native.Mathlib.Omega.{arith}
 use borrow.Author.Rules.{rules}
 use Rattle.state_bytes.proofs.place_codes.Statement.{statement}
 use Rattle.state_bytes.proofs.place_codes.Tie as tie
-use Rattle.state_bytes.specs.Flat.{placeSize}
-use Rattle.spec_model.specs.Crossing.{maxPlaces}
+use Rattle.state_bytes.specs.Flat.{place_size}
+use Rattle.spec_model.specs.Crossing.{max_places}
 
 abbrev invariant-loop : tie.invariant-loop
-invariant-loop b count p₀ p = (p ≤ count) × (p ≤ maxPlaces) × (placeCodes b count ≡ eachFrom (count - p) p (PlaceFits b))
+invariant-loop b count p₀ p = (p ≤ count) × (p ≤ max_places) × (place_codes b count ≡ each_from (count - p) p (PlaceFits b))
 
 abbrev decreases-loop : tie.decreases-loop
 decreases-loop b count p₀ p = count - p
@@ -41,7 +41,7 @@ returns-2 c =
     (l.invariant.2 ∙ rest-broken (PlaceFits c.before.before.before.before.before.args.b.now) c.before.before.before.before.before.args.count l.p
     c.before.before.before.loop-test.true
     (place-fits c.before.before.before.before.before.args.b.now l.p (omega (arith, l.invariant.1, c.before.before.if1.false))
-    ∙ too_large (get_or c.before.before.before.before.before.args.b.now (c.before.before.before.before.loop.p * placeSize) 0) c.if2.true))
+    ∙ too_large (get_or c.before.before.before.before.before.args.b.now (c.before.before.before.before.loop.p * place_size) 0) c.if2.true))
 
 add-p : tie.Need-overflow-add-p invariant-loop decreases-loop
 add-p c = search rules
@@ -56,7 +56,7 @@ loop-again c = let l = c.before.before.before.before.loop in (
   l.invariant.2 ∙ rest-next (PlaceFits c.before.before.before.before.before.args.b.now) c.before.before.before.before.before.args.count l.p
       c.before.before.before.loop-test.true
       (place-fits c.before.before.before.before.before.args.b.now l.p (omega (arith, l.invariant.1, c.before.before.if1.false))
-      ∙ small-enough (get_or c.before.before.before.before.before.args.b.now (c.before.before.before.before.loop.p * placeSize) 0) c.if2.false),
+      ∙ small-enough (get_or c.before.before.before.before.before.args.b.now (c.before.before.before.before.loop.p * place_size) 0) c.if2.false),
 )
 
 returns-3 : tie.Need-returns-3 invariant-loop decreases-loop

@@ -1,17 +1,17 @@
 -- The array is filled place by place, up to the count or the array's end (Filling).
 use mathlib.Core.Path.{◌≡◌, ap, ◌∙◌}
 use Prim.Native.Nat.{◌-◌, ◌≤◌}
-use Rattle.state_record.specs.View.{blankPlace}
-use Rattle.state_bytes.specs.Records.{placeFrom, placesFrom}
+use Rattle.state_record.specs.View.{blank_place}
+use Rattle.state_bytes.specs.Records.{place_from, places_from}
 use Rattle.state_bytes.proofs.Filling.{Filled, filled_none, filled_more, filled-all}
 use native.Mathlib.Omega.{arith}
 use borrow.Author.Rules.{rules}
 use Rattle.state_bytes.proofs.places_from.Statement.{statement}
 use Rattle.state_bytes.proofs.places_from.Tie as tie
-use Rattle.spec_model.specs.Crossing.{maxPlaces}
+use Rattle.spec_model.specs.Crossing.{max_places}
 
 abbrev invariant-loop : tie.invariant-loop
-invariant-loop b count list₀ n p₀ list p = (p ≤ n) × Filled blankPlace (placeFrom b) maxPlaces p list
+invariant-loop b count list₀ n p₀ list p = (p ≤ n) × Filled blank_place (place_from b) max_places p list
 
 abbrev decreases-loop : tie.decreases-loop
 decreases-loop b count list₀ n p₀ list p = n - p
@@ -20,7 +20,7 @@ least-requires : tie.Need-least-requires invariant-loop decreases-loop
 least-requires c κs = search rules
 
 loop-holds : tie.Need-loop-init invariant-loop decreases-loop
-loop-holds c = (omega arith, filled_none blankPlace (placeFrom c.before.args.b.now) maxPlaces)
+loop-holds c = (omega arith, filled_none blank_place (place_from c.before.args.b.now) max_places)
 
 place-from-requires : tie.Need-place-from-requires invariant-loop decreases-loop
 place-from-requires c κs = omega (arith, c.loop-test.true, c.before.before.least.ensures.2)
@@ -40,17 +40,17 @@ loop-less c = search rules
 loop-again : tie.Need-loop-preserved invariant-loop decreases-loop
 loop-again c = let w = c.before.before.loop in (
   omega arith,
-  filled_more blankPlace (placeFrom c.before.before.before.before.args.b.now) maxPlaces w.p w.list _ c.place-from.ensures
+  filled_more blank_place (place_from c.before.before.before.before.args.b.now) max_places w.p w.list _ c.place-from.ensures
       (omega (arith, c.before.loop-test.true, c.before.before.before.least.ensures.2)) w.invariant.1,
 )
 
 returns : tie.Need-returns invariant-loop decreases-loop
-unfolding placesFrom
+unfolding places_from
 returns c =
     let a = c.before.before.before.args in let w = c.before.loop in let m = c.before.before.least in
     let e : w.p ≡ m.result = omega (arith, c.loop-test.false, w.invariant.0) in
     ap (λ l. record { list = l; count = a.count })
-    (filled-all blankPlace (placeFrom a.b.now) maxPlaces a.count w.p w.list (e ∙ m.ensures.0) w.invariant.1 (omega (arith, w.invariant.0, m.ensures.1)))
+    (filled-all blank_place (place_from a.b.now) max_places a.count w.p w.list (e ∙ m.ensures.0) w.invariant.1 (omega (arith, w.invariant.0, m.ensures.1)))
 
 pub places-from-spec : {M : Type 1} → statement M
 places-from-spec =

@@ -7,7 +7,7 @@ use Rattle.state_bytes.proofs.Rows.{four}
 use borrow.Author.Rules.{rules}
 use Rattle.state_bytes.proofs.put_call.Statement.{statement}
 use Rattle.state_bytes.proofs.put_call.Tie as tie
-use Rattle.state_bytes.specs.Flat.{callSize}
+use Rattle.state_bytes.specs.Flat.{call_size}
 
 mul_at : tie.Need-overflow-mul-at
 mul_at c = search rules
@@ -37,8 +37,8 @@ element-write-b-4 : tie.Need-element-write-b-4
 element-write-b-4 c = search rules
 
 returns : tie.Need-returns
-returns c = let a = c.before.args in four a.b.now (a.j * callSize) a.c.caller a.c.cell a.c.method c.bit-of.result
-    ∙ ap (λ (v : ℕ). sets a.b.now (a.j * callSize) (a.c.caller ∷ a.c.cell ∷ a.c.method ∷ v ∷ [])) c.bit-of.ensures.0
+returns c = let a = c.before.args in four a.b.now (a.j * call_size) a.c.caller a.c.cell a.c.method c.bit-of.result
+    ∙ ap (λ (v : ℕ). sets a.b.now (a.j * call_size) (a.c.caller ∷ a.c.cell ∷ a.c.method ∷ v ∷ [])) c.bit-of.ensures.0
 
 pub put-call-spec : {M : Type 1} → statement M
 put-call-spec =

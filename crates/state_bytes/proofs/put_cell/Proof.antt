@@ -4,7 +4,7 @@ use Rattle.table_record.proofs.Lists.{three}
 use borrow.Author.Rules.{rules}
 use Rattle.state_bytes.proofs.put_cell.Statement.{statement}
 use Rattle.state_bytes.proofs.put_cell.Tie as tie
-use Rattle.state_bytes.specs.Flat.{cellSize}
+use Rattle.state_bytes.specs.Flat.{cell_size}
 
 mul_at : tie.Need-overflow-mul-at
 mul_at c = search rules
@@ -25,7 +25,7 @@ element-write-b-3 : tie.Need-element-write-b-3
 element-write-b-3 c = search rules
 
 returns : tie.Need-returns
-returns c = let a = c.args in three a.b.now (a.k * cellSize) a.c.holder a.c.ty a.c.place
+returns c = let a = c.args in three a.b.now (a.k * cell_size) a.c.holder a.c.ty a.c.place
 
 pub put-cell-spec : {M : Type 1} → statement M
 put-cell-spec =

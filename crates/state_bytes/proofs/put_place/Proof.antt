@@ -2,11 +2,11 @@
 use mathlib.Core.Path.{ap, sym, ◌∙◌}
 use Prim.Native.Nat.{◌*◌}
 use lib.Seq.{sets}
-use Rattle.state_bytes.specs.Records.{placeBytes}
+use Rattle.state_bytes.specs.Records.{place_bytes}
 use borrow.Author.Rules.{rules}
 use Rattle.state_bytes.proofs.put_place.Statement.{statement}
 use Rattle.state_bytes.proofs.put_place.Tie as tie
-use Rattle.state_bytes.specs.Flat.{placeSize}
+use Rattle.state_bytes.specs.Flat.{place_size}
 
 enum-known-x : tie.Need-enum-known-x
 enum-known-x c = search rules
@@ -23,12 +23,12 @@ put-three-requires-2 c κs = search rules
 returns : tie.Need-returns
 returns c =
     c.put_three.ensures ∙ sym
-    (ap (λ x. sets c.before.before.before.before.before.args.b.now (c.before.before.before.before.before.args.p * placeSize) (placeBytes x)) c.before.before.before.x.given.1)
+    (ap (λ x. sets c.before.before.before.before.before.args.b.now (c.before.before.before.before.before.args.p * place_size) (place_bytes x)) c.before.before.before.x.given.1)
 
 returns-2 : tie.Need-returns-2
 returns-2 c =
     c.put-three2.ensures ∙ sym
-    (ap (λ x. sets c.before.before.before.before.before.args.b.now (c.before.before.before.before.before.args.p * placeSize) (placeBytes x)) c.before.before.before.x2.given.1)
+    (ap (λ x. sets c.before.before.before.before.before.args.b.now (c.before.before.before.before.before.args.p * place_size) (place_bytes x)) c.before.before.before.x2.given.1)
 
 pub put-place-spec : {M : Type 1} → statement M
 put-place-spec =

@@ -4,7 +4,7 @@ use Rattle.table_record.proofs.Lists.{three}
 use borrow.Author.Rules.{rules}
 use Rattle.state_bytes.proofs.put_three.Statement.{statement}
 use Rattle.state_bytes.proofs.put_three.Tie as tie
-use Rattle.state_bytes.specs.Flat.{placeSize}
+use Rattle.state_bytes.specs.Flat.{place_size}
 
 mul_at : tie.Need-overflow-mul-at
 mul_at c = search rules
@@ -25,7 +25,7 @@ element-write-b-3 : tie.Need-element-write-b-3
 element-write-b-3 c = search rules
 
 returns : tie.Need-returns
-returns c = let a = c.args in three a.b.now (a.p * placeSize) a.code a.first a.second
+returns c = let a = c.args in three a.b.now (a.p * place_size) a.code a.first a.second
 
 pub put-three-spec : {M : Type 1} → statement M
 put-three-spec =

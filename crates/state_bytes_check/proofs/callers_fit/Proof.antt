@@ -4,14 +4,14 @@ use Prim.Native.Nat.{ℕ, ◌-◌, ◌≤◌, ◌<◌}
 use mathlib.Core.List.{List}
 use native.Mathlib.Omega.{arith}
 use borrow.Author.Rules.{rules}
-use Rattle.spec_model.specs.Table.{maxSubjects}
-use Rattle.spec_model.specs.Requests.{maxCalls}
+use Rattle.spec_model.specs.Table.{max_subjects}
+use Rattle.spec_model.specs.Requests.{max_calls}
 use Rattle.state_record.specs.declared.Call.{Call}
-use Rattle.state_record.specs.View.{callsIn}
+use Rattle.state_record.specs.View.{calls_in}
 use Rattle.state_record.proofs.Kept.{ended}
 use Rattle.state_check.specs.Parts.{CallersBelow}
 use Rattle.state_check.proofs.Tally.{Tallied, tally-none, tally-more, caller-below, callers-over, callers-few}
-use Rattle.state_bytes.specs.Records.{callFrom, callsFrom}
+use Rattle.state_bytes.specs.Records.{call_from, calls_from}
 use Rattle.state_bytes_check.proofs.Laws.{Called, calls_are}
 use Rattle.state_bytes_check.proofs.callers_fit.Statement.{statement}
 use Rattle.state_bytes_check.proofs.callers_fit.Tie as tie
@@ -23,12 +23,12 @@ abbrev decreases-loop : tie.decreases-loop
 decreases-loop b n made₀ j₀ made j = n - j
 
 -- the caller of call j, read as x and as k
-module _ (b : List ℕ) (n : ℕ) (h : (n ≤ maxCalls) × CallersBelow maxSubjects (callsIn (callsFrom b n))) (j : ℕ) (low : j < n) (x : Call) (is : x ≡ callFrom b j) (k : ℕ) (e : k ≡ x.caller) where
+module _ (b : List ℕ) (n : ℕ) (h : (n ≤ max_calls) × CallersBelow max_subjects (calls_in (calls_from b n))) (j : ℕ) (low : j < n) (x : Call) (is : x ≡ call_from b j) (k : ℕ) (e : k ≡ x.caller) where
   caller-is : k ≡ (Called b j).caller
   caller-is = e ∙ ap (λ (c : Call). c.caller) is
 
-  caller-low : k < maxSubjects
-  caller-low = omega (arith, caller-is, caller-below (Called b) n (callsIn (callsFrom b n)) (calls_are b n h.0) maxSubjects h.1 j low)
+  caller-low : k < max_subjects
+  caller-low = omega (arith, caller-is, caller-below (Called b) n (calls_in (calls_from b n)) (calls_are b n h.0) max_subjects h.1 j low)
 
 loop-holds : tie.Need-loop-init invariant-loop decreases-loop
 loop-holds c = (omega arith, tally-none _)
@@ -50,7 +50,7 @@ array-read-if1 c = let a = c.before.before.before.before.args in
 returns : tie.Need-returns invariant-loop decreases-loop
 returns c = let a = c.before.before.before.before.before.args in let h = c.before.before.before.before.before.requires in let l = c.before.before.before.before.loop in
     let low = c.before.before.before.loop-test.true in λ subjects few known.
-    sym (callers-over (Called a.b.now) a.n (callsIn (callsFrom a.b.now a.n)) (calls_are a.b.now a.n h.0) l.j l.made l.invariant.1 low c.before.wide.result
+    sym (callers-over (Called a.b.now) a.n (calls_in (calls_from a.b.now a.n)) (calls_are a.b.now a.n h.0) l.j l.made l.invariant.1 low c.before.wide.result
     (caller-is a.b.now a.n h l.j low c.before.before.call_from.result c.before.before.call_from.ensures
     c.before.wide.result c.before.wide.ensures.0) c.if1.true subjects few known)
 
@@ -89,7 +89,7 @@ loop-again c = let a = c.before.before.before.before.before.args in let h = c.be
 
 returns-2 : tie.Need-returns-2 invariant-loop decreases-loop
 returns-2 c = let a = c.before.before.args in let l = c.before.loop in λ subjects few known.
-    sym (callers-few (Called a.b.now) a.n (callsIn (callsFrom a.b.now a.n)) (calls_are a.b.now a.n c.before.before.requires.0) l.made
+    sym (callers-few (Called a.b.now) a.n (calls_in (calls_from a.b.now a.n)) (calls_are a.b.now a.n c.before.before.requires.0) l.made
     (subst (λ (i : ℕ). Tallied (Called a.b.now) i l.made) (ended _ _ l.invariant.0 c.loop-test.false) l.invariant.1) subjects few)
 
 pub callers-fit-spec : {M : Type 1} → statement M

@@ -3,22 +3,22 @@ use mathlib.Core.Path.{◌≡◌, ap, sym, ◌∙◌}
 use Prim.Native.Nat.{◌-◌, ◌≤◌}
 use native.Mathlib.Omega.{arith}
 use borrow.Author.Rules.{rules}
-use Rattle.spec_model.specs.Requests.{maxCells}
+use Rattle.spec_model.specs.Requests.{max_cells}
 use Rattle.table_record.specs.Store.{types_in}
 use Rattle.state_record.specs.declared.Cell.{Cell}
 use Rattle.state_record.specs.View.{cell_of}
 use Rattle.table_check_links.proofs.Each.{rest-next, rest-broken, rest_end}
 use Rattle.table_check_links.proofs.Steps.{refused, passed}
-use Rattle.table_check_links.specs.Parts.{eachFrom}
-use Rattle.state_check_records.specs.Parts.{cellAccepted}
-use Rattle.state_check.specs.Parts.{cellsAccepted}
-use Rattle.state_bytes.specs.Records.{cellsFrom}
+use Rattle.table_check_links.specs.Parts.{each_from}
+use Rattle.state_check_records.specs.Parts.{cell_accepted}
+use Rattle.state_check.specs.Parts.{cells_accepted}
+use Rattle.state_bytes.specs.Records.{cells_from}
 use Rattle.state_bytes_check.proofs.Laws.{CellAt, cells-each}
 use Rattle.state_bytes_check.proofs.cells_fit.Statement.{statement}
 use Rattle.state_bytes_check.proofs.cells_fit.Tie as tie
 
 abbrev invariant-loop : tie.invariant-loop
-invariant-loop types c places b n k₀ k = (k ≤ n) × (n ≤ maxCells) × (cellsAccepted (types_in types) c places (cellsFrom b n) ≡ eachFrom (n - k) k (CellAt types c places b))
+invariant-loop types c places b n k₀ k = (k ≤ n) × (n ≤ max_cells) × (cells_accepted (types_in types) c places (cells_from b n) ≡ each_from (n - k) k (CellAt types c places b))
 
 abbrev decreases-loop : tie.decreases-loop
 decreases-loop types c places b n k₀ k = n - k
@@ -34,7 +34,7 @@ cell-fits-requires c κs = c.before.before.before.requires.0
 
 returns : tie.Need-returns invariant-loop decreases-loop
 returns c = let a = c.before.before.before.before.before.args in let l = c.before.before.before.before.loop in
-    let says = c.before.cell-fits.ensures ∙ ap (λ (x : Cell). cellAccepted (types_in a.types.now) a.c a.places (cell_of x)) c.before.before.cell-from.ensures in
+    let says = c.before.cell-fits.ensures ∙ ap (λ (x : Cell). cell_accepted (types_in a.types.now) a.c a.places (cell_of x)) c.before.before.cell-from.ensures in
     sym (l.invariant.2 ∙ rest-broken (CellAt a.types.now a.c a.places a.b.now) a.n l.k c.before.before.before.loop-test.true
     (refused _ _ says c.if1.true))
 
@@ -46,7 +46,7 @@ loop-less c = search rules
 
 loop-again : tie.Need-loop-preserved invariant-loop decreases-loop
 loop-again c = let a = c.before.before.before.before.before.args in let l = c.before.before.before.before.loop in
-    let says = c.before.cell-fits.ensures ∙ ap (λ (x : Cell). cellAccepted (types_in a.types.now) a.c a.places (cell_of x)) c.before.before.cell-from.ensures in (
+    let says = c.before.cell-fits.ensures ∙ ap (λ (x : Cell). cell_accepted (types_in a.types.now) a.c a.places (cell_of x)) c.before.before.cell-from.ensures in (
       omega arith,
       l.invariant.1,
       l.invariant.2 ∙ rest-next (CellAt a.types.now a.c a.places a.b.now) a.n l.k c.before.before.before.loop-test.true

@@ -3,22 +3,22 @@ use mathlib.Core.Path.{◌≡◌, ap, sym, ◌∙◌}
 use Prim.Native.Nat.{◌-◌, ◌≤◌}
 use native.Mathlib.Omega.{arith}
 use borrow.Author.Rules.{rules}
-use Rattle.spec_model.specs.Crossing.{maxPlaces}
+use Rattle.spec_model.specs.Crossing.{max_places}
 use Rattle.table_record.specs.Store.{types_in}
 use Rattle.state_record.specs.declared.PlaceRec.{PlaceRec}
 use Rattle.state_record.specs.View.{place_of}
 use Rattle.table_check_links.proofs.Each.{rest-next, rest-broken, rest_end}
 use Rattle.table_check_links.proofs.Steps.{refused, passed}
-use Rattle.table_check_links.specs.Parts.{eachFrom}
-use Rattle.state_check_records.specs.Parts.{placeAccepted}
-use Rattle.state_check.specs.Parts.{placesAccepted}
-use Rattle.state_bytes.specs.Records.{placesFrom}
+use Rattle.table_check_links.specs.Parts.{each_from}
+use Rattle.state_check_records.specs.Parts.{place_accepted}
+use Rattle.state_check.specs.Parts.{places_accepted}
+use Rattle.state_bytes.specs.Records.{places_from}
 use Rattle.state_bytes_check.proofs.Laws.{PlaceAt, places-each}
 use Rattle.state_bytes_check.proofs.places_fit.Statement.{statement}
 use Rattle.state_bytes_check.proofs.places_fit.Tie as tie
 
 abbrev invariant-loop : tie.invariant-loop
-invariant-loop types c b n p₀ p = (p ≤ n) × (n ≤ maxPlaces) × (placesAccepted (types_in types) c (placesFrom b n) ≡ eachFrom (n - p) p (PlaceAt types c b))
+invariant-loop types c b n p₀ p = (p ≤ n) × (n ≤ max_places) × (places_accepted (types_in types) c (places_from b n) ≡ each_from (n - p) p (PlaceAt types c b))
 
 abbrev decreases-loop : tie.decreases-loop
 decreases-loop types c b n p₀ p = n - p
@@ -34,7 +34,7 @@ place-fits-requires c κs = c.before.before.before.requires.0
 
 returns : tie.Need-returns invariant-loop decreases-loop
 returns c = let a = c.before.before.before.before.before.args in let l = c.before.before.before.before.loop in
-    let says = c.before.place-fits.ensures ∙ ap (λ (x : PlaceRec). placeAccepted (types_in a.types.now) a.c l.p (place_of x.place)) c.before.before.place-from.ensures in
+    let says = c.before.place-fits.ensures ∙ ap (λ (x : PlaceRec). place_accepted (types_in a.types.now) a.c l.p (place_of x.place)) c.before.before.place-from.ensures in
     sym (l.invariant.2 ∙ rest-broken (PlaceAt a.types.now a.c a.b.now) a.n l.p c.before.before.before.loop-test.true
     (refused _ _ says c.if1.true))
 
@@ -46,7 +46,7 @@ loop-less c = search rules
 
 loop-again : tie.Need-loop-preserved invariant-loop decreases-loop
 loop-again c = let a = c.before.before.before.before.before.args in let l = c.before.before.before.before.loop in
-    let says = c.before.place-fits.ensures ∙ ap (λ (x : PlaceRec). placeAccepted (types_in a.types.now) a.c l.p (place_of x.place)) c.before.before.place-from.ensures in (
+    let says = c.before.place-fits.ensures ∙ ap (λ (x : PlaceRec). place_accepted (types_in a.types.now) a.c l.p (place_of x.place)) c.before.before.place-from.ensures in (
       omega arith,
       l.invariant.1,
       l.invariant.2 ∙ rest-next (PlaceAt a.types.now a.c a.b.now) a.n l.p c.before.before.before.loop-test.true

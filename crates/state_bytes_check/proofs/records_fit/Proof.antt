@@ -5,8 +5,8 @@ use borrow.Author.Rules.{rules}
 use Rattle.table_check.proofs.Accepted.{accepted-limits}
 use Rattle.table_check_links.proofs.Steps.{refused, passed, ends, goes}
 use Rattle.state_check.proofs.Laws.{sizes-are, callers-known}
-use Rattle.state_bytes.specs.Flat.{flat, countsIn, cellCount, placeCount, callCount}
-use Rattle.state_bytes.specs.Records.{callsFrom}
+use Rattle.state_bytes.specs.Flat.{flat, counts_in, cell_count, place_count, call_count}
+use Rattle.state_bytes.specs.Records.{calls_from}
 use Rattle.state_bytes_check.proofs.Laws.{bytes-are}
 use Rattle.state_bytes_check.proofs.records_fit.Statement.{statement}
 use Rattle.state_bytes_check.proofs.records_fit.Tie as tie
@@ -26,7 +26,7 @@ sizes-fit-requires c κs = search rules
 returns : tie.Need-returns
 returns c = let a = c.before.before.before.before.before.args in
     let f = flat a.types.now a.links.now a.cells.now a.places.now a.calls.now a.counts.now in
-    ends _ _ (refused _ _ c.before.sizes-fit.ensures c.if1.true) ∙ sym (bytes-are f (countsIn f.counts) refl)
+    ends _ _ (refused _ _ c.before.sizes-fit.ensures c.if1.true) ∙ sym (bytes-are f (counts_in f.counts) refl)
 
 counts-from-requires : tie.Need-counts-from-requires
 counts-from-requires c κs = search rules
@@ -42,7 +42,7 @@ returns-2 c = let t = c in let s = t.before.before.before.before in let a = s.be
 
 cells-fit-requires : tie.Need-cells-fit-requires
 cells-fit-requires c κs = let t = c in let s = t.before.before.before.before in let a = s.before.before.before.before.before.args in
-    let z = sizes-are (cellCount a.counts.now) (placeCount a.counts.now) (callCount a.counts.now) (passed _ _ s.before.sizes-fit.ensures s.if1.false) in
+    let z = sizes-are (cell_count a.counts.now) (place_count a.counts.now) (call_count a.counts.now) (passed _ _ s.before.sizes-fit.ensures s.if1.false) in
     (accepted-limits a.types.now a.links.now _ (passed _ _ t.before.table-fits.ensures t.if2.false), z.0)
 
 returns-3 : tie.Need-returns-3
@@ -55,7 +55,7 @@ returns-3 c = let t = c.before.before in let s = t.before.before.before.before i
 
 places-fit-requires : tie.Need-places-fit-requires
 places-fit-requires c κs = let t = c.before.before in let s = t.before.before.before.before in let a = s.before.before.before.before.before.args in
-    let z = sizes-are (cellCount a.counts.now) (placeCount a.counts.now) (callCount a.counts.now) (passed _ _ s.before.sizes-fit.ensures s.if1.false) in
+    let z = sizes-are (cell_count a.counts.now) (place_count a.counts.now) (call_count a.counts.now) (passed _ _ s.before.sizes-fit.ensures s.if1.false) in
     (accepted-limits a.types.now a.links.now _ (passed _ _ t.before.table-fits.ensures t.if2.false), z.1)
 
 returns-4 : tie.Need-returns-4
@@ -69,7 +69,7 @@ returns-4 c = let t = c.before.before.before.before in let s = t.before.before.b
 
 calls-fit-requires : tie.Need-calls-fit-requires
 calls-fit-requires c κs = let t = c.before.before.before.before in let s = t.before.before.before.before in let a = s.before.before.before.before.before.args in
-    (sizes-are (cellCount a.counts.now) (placeCount a.counts.now) (callCount a.counts.now) (passed _ _ s.before.sizes-fit.ensures s.if1.false)).2
+    (sizes-are (cell_count a.counts.now) (place_count a.counts.now) (call_count a.counts.now) (passed _ _ s.before.sizes-fit.ensures s.if1.false)).2
 
 returns-5 : tie.Need-returns-5
 returns-5 c = let t = c.before.before.before.before.before.before in let s = t.before.before.before.before in let a = s.before.before.before.before.before.args in
@@ -82,9 +82,9 @@ returns-5 c = let t = c.before.before.before.before.before.before in let s = t.b
 
 callers-fit-requires : tie.Need-callers-fit-requires
 callers-fit-requires c κs = let t = c.before.before.before.before.before.before in let s = t.before.before.before.before in let a = s.before.before.before.before.before.args in
-    let z = sizes-are (cellCount a.counts.now) (placeCount a.counts.now) (callCount a.counts.now) (passed _ _ s.before.sizes-fit.ensures s.if1.false) in
+    let z = sizes-are (cell_count a.counts.now) (place_count a.counts.now) (call_count a.counts.now) (passed _ _ s.before.sizes-fit.ensures s.if1.false) in
     let limits = accepted-limits a.types.now a.links.now _ (passed _ _ t.before.table-fits.ensures t.if2.false) in
-    let known = callers-known _ (cellCount a.counts.now) (callsFrom a.calls.now (callCount a.counts.now)) (passed _ _ c.before.calls-fit.ensures c.if5.false) in
+    let known = callers-known _ (cell_count a.counts.now) (calls_from a.calls.now (call_count a.counts.now)) (passed _ _ c.before.calls-fit.ensures c.if5.false) in
     (z.2, λ j l. omega (arith, known j l, limits.subjects))
 
 returns-6 : tie.Need-returns-6
@@ -96,7 +96,7 @@ returns-6 c = let t = c.before.before.before.before.before.before.before in let 
     (goes _ _ _ (passed _ _ t.before.table-fits.ensures t.if2.false)
     (goes _ _ _ (passed _ _ c.before.before.before.before.before.before.cells_fit.ensures c.before.before.before.before.before.if3.false)
     (goes _ _ _ (passed _ _ c.before.before.before.before.places-fit.ensures c.before.before.before.if4.false)
-    (goes _ _ _ calls (c.callers-fit.ensures _ limits.subjects (callers-known _ (cellCount a.counts.now) (callsFrom a.calls.now (callCount a.counts.now)) calls))))))
+    (goes _ _ _ calls (c.callers-fit.ensures _ limits.subjects (callers-known _ (cell_count a.counts.now) (calls_from a.calls.now (call_count a.counts.now)) calls))))))
     ∙ sym (bytes-are f _ t.before.before.counts-from.ensures)
 
 pub records-fit-spec : {M : Type 1} → statement M

@@ -3,9 +3,9 @@ use mathlib.Core.Path.{◌≡◌, refl, sym, subst}
 use Prim.Native.Nat.{ℕ, ◌-◌, ◌≤◌, ◌<◌}
 use native.Mathlib.Omega.{arith}
 use borrow.Author.Rules.{rules}
-use Rattle.spec_model.specs.Table.{maxSubjects}
+use Rattle.spec_model.specs.Table.{max_subjects}
 use Rattle.state_record.specs.declared.Calls.{Calls}
-use Rattle.state_record.specs.View.{callsIn}
+use Rattle.state_record.specs.View.{calls_in}
 use Rattle.state_record.proofs.Kept.{called, calls-from, ended}
 use Rattle.state_check.specs.Parts.{CallersBelow}
 use Rattle.state_check.proofs.Tally.{Tallied, tally-none, tally-more, caller-below, callers-over, callers-few}
@@ -19,8 +19,8 @@ abbrev decreases-loop : tie.decreases-loop
 decreases-loop js n made₀ j₀ made j = n - j
 
 -- the caller of call j, read as k
-caller-low : (js : Calls) → CallersBelow maxSubjects (callsIn js) → (j : ℕ) → j < js.count → (k : ℕ) → k ≡ (called js j).caller → k < maxSubjects
-caller-low js h j low k e = omega (arith, e, caller-below (called js) js.count (callsIn js) (calls-from js) maxSubjects h j low)
+caller-low : (js : Calls) → CallersBelow max_subjects (calls_in js) → (j : ℕ) → j < js.count → (k : ℕ) → k ≡ (called js j).caller → k < max_subjects
+caller-low js h j low k e = omega (arith, e, caller-below (called js) js.count (calls_in js) (calls-from js) max_subjects h j low)
 
 loop-holds : tie.Need-loop-init invariant-loop decreases-loop
 loop-holds c = (omega arith, refl, tally-none _)
@@ -43,7 +43,7 @@ array-read-if1 c =
 
 returns : tie.Need-returns invariant-loop decreases-loop
 returns c = let js = c.before.before.before.before.args.t1 in let l = c.before.before.before.loop in λ subjects few known.
-    sym (callers-over (called js) js.count (callsIn js) (calls-from js) l.j l.made l.invariant.2 c.before.before.loop-test.true c.before.wide.result c.before.wide.ensures.0
+    sym (callers-over (called js) js.count (calls_in js) (calls-from js) l.j l.made l.invariant.2 c.before.before.loop-test.true c.before.wide.result c.before.wide.ensures.0
     c.if1.true subjects few known)
 
 mul-made : tie.Need-overflow-mul-made invariant-loop decreases-loop
@@ -78,7 +78,7 @@ loop-again c = let js = c.before.before.before.before.args.t1 in let l = c.befor
 
 returns-2 : tie.Need-returns-2 invariant-loop decreases-loop
 returns-2 c = let js = c.before.before.args.t1 in let l = c.before.loop in λ subjects few known.
-    sym (callers-few (called js) js.count (callsIn js) (calls-from js) l.made (subst (λ (i : ℕ). Tallied (called js) i l.made) (ended _ _ l.invariant.0 c.loop-test.false) l.invariant.2) subjects few)
+    sym (callers-few (called js) js.count (calls_in js) (calls-from js) l.made (subst (λ (i : ℕ). Tallied (called js) i l.made) (ended _ _ l.invariant.0 c.loop-test.false) l.invariant.2) subjects few)
 
 pub callers-fit-spec : {M : Type 1} → statement M
 callers-fit-spec =

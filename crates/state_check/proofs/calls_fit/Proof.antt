@@ -5,21 +5,21 @@ use native.Mathlib.Omega.{arith}
 use borrow.Author.Rules.{rules}
 use Rattle.table_check_links.proofs.Each.{rest-next, rest-broken, rest_end}
 use Rattle.table_check_links.proofs.Steps.{refused, passed}
-use Rattle.table_check_links.specs.Parts.{eachFrom}
-use Rattle.state_check.specs.Parts.{callsAccepted}
+use Rattle.table_check_links.specs.Parts.{each_from}
+use Rattle.state_check.specs.Parts.{calls_accepted}
 use Rattle.state_check.proofs.Steps.{CallAt}
 use Rattle.state_check.proofs.calls_fit.Statement.{statement}
 use Rattle.state_check.proofs.calls_fit.Tie as tie
 
 abbrev invariant-loop : tie.invariant-loop
-invariant-loop c cells js n j₀ j = (j ≤ n) × (n ≡ js.count) × (callsAccepted c cells js ≡ eachFrom (n - j) j (CallAt c cells js))
+invariant-loop c cells js n j₀ j = (j ≤ n) × (n ≡ js.count) × (calls_accepted c cells js ≡ each_from (n - j) j (CallAt c cells js))
 
 abbrev decreases-loop : tie.decreases-loop
 decreases-loop c cells js n j₀ j = n - j
 
 loop-holds : tie.Need-loop-init invariant-loop decreases-loop
-unfolding callsAccepted
-loop-holds c = let a = c.args in let e : a.t3.count ≡ a.t3.count - 0 = omega arith in (omega arith, refl, ap (λ (z : ℕ). eachFrom z 0 (CallAt a.c a.cells a.t3)) e)
+unfolding calls_accepted
+loop-holds c = let a = c.args in let e : a.t3.count ≡ a.t3.count - 0 = omega arith in (omega arith, refl, ap (λ (z : ℕ). each_from z 0 (CallAt a.c a.cells a.t3)) e)
 
 mul-x : tie.Need-overflow-mul-x invariant-loop decreases-loop
 mul-x c = search rules

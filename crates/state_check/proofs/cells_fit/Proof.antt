@@ -6,21 +6,21 @@ use borrow.Author.Rules.{rules}
 use Rattle.table_record.specs.Store.{types_in}
 use Rattle.table_check_links.proofs.Each.{rest-next, rest-broken, rest_end}
 use Rattle.table_check_links.proofs.Steps.{refused, passed}
-use Rattle.table_check_links.specs.Parts.{eachFrom}
-use Rattle.state_check.specs.Parts.{cellsAccepted}
+use Rattle.table_check_links.specs.Parts.{each_from}
+use Rattle.state_check.specs.Parts.{cells_accepted}
 use Rattle.state_check.proofs.Steps.{CellAt}
 use Rattle.state_check.proofs.cells_fit.Statement.{statement}
 use Rattle.state_check.proofs.cells_fit.Tie as tie
 
 abbrev invariant-loop : tie.invariant-loop
-invariant-loop b c places cs n k₀ k = (k ≤ n) × (n ≡ cs.count) × (cellsAccepted (types_in b) c places cs ≡ eachFrom (n - k) k (CellAt b c places cs))
+invariant-loop b c places cs n k₀ k = (k ≤ n) × (n ≡ cs.count) × (cells_accepted (types_in b) c places cs ≡ each_from (n - k) k (CellAt b c places cs))
 
 abbrev decreases-loop : tie.decreases-loop
 decreases-loop b c places cs n k₀ k = n - k
 
 loop-holds : tie.Need-loop-init invariant-loop decreases-loop
-unfolding cellsAccepted
-loop-holds c = let a = c.args in let e : a.t4.count ≡ a.t4.count - 0 = omega arith in (omega arith, refl, ap (λ (z : ℕ). eachFrom z 0 (CellAt a.b.now a.c a.places a.t4)) e)
+unfolding cells_accepted
+loop-holds c = let a = c.args in let e : a.t4.count ≡ a.t4.count - 0 = omega arith in (omega arith, refl, ap (λ (z : ℕ). each_from z 0 (CellAt a.b.now a.c a.places a.t4)) e)
 
 mul-x : tie.Need-overflow-mul-x invariant-loop decreases-loop
 mul-x c = search rules

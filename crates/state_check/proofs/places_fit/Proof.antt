@@ -6,21 +6,21 @@ use borrow.Author.Rules.{rules}
 use Rattle.table_record.specs.Store.{types_in}
 use Rattle.table_check_links.proofs.Each.{rest-next, rest-broken, rest_end}
 use Rattle.table_check_links.proofs.Steps.{refused, passed}
-use Rattle.table_check_links.specs.Parts.{eachFrom}
-use Rattle.state_check.specs.Parts.{placesAccepted}
+use Rattle.table_check_links.specs.Parts.{each_from}
+use Rattle.state_check.specs.Parts.{places_accepted}
 use Rattle.state_check.proofs.Steps.{PlaceAt}
 use Rattle.state_check.proofs.places_fit.Statement.{statement}
 use Rattle.state_check.proofs.places_fit.Tie as tie
 
 abbrev invariant-loop : tie.invariant-loop
-invariant-loop b c ps n p₀ p = (p ≤ n) × (n ≡ ps.count) × (placesAccepted (types_in b) c ps ≡ eachFrom (n - p) p (PlaceAt b c ps))
+invariant-loop b c ps n p₀ p = (p ≤ n) × (n ≡ ps.count) × (places_accepted (types_in b) c ps ≡ each_from (n - p) p (PlaceAt b c ps))
 
 abbrev decreases-loop : tie.decreases-loop
 decreases-loop b c ps n p₀ p = n - p
 
 loop-holds : tie.Need-loop-init invariant-loop decreases-loop
-unfolding placesAccepted
-loop-holds c = let a = c.args in let e : a.t3.count ≡ a.t3.count - 0 = omega arith in (omega arith, refl, ap (λ (z : ℕ). eachFrom z 0 (PlaceAt a.b.now a.c a.t3)) e)
+unfolding places_accepted
+loop-holds c = let a = c.args in let e : a.t3.count ≡ a.t3.count - 0 = omega arith in (omega arith, refl, ap (λ (z : ℕ). each_from z 0 (PlaceAt a.b.now a.c a.t3)) e)
 
 mul-x : tie.Need-overflow-mul-x invariant-loop decreases-loop
 mul-x c = search rules

@@ -5,10 +5,10 @@ use native.Mathlib.Omega.{arith}
 use lib.Dec.{ltb}
 use lib.ListN.{get_or}
 use borrow.Author.Rules.{rules}
-use Rattle.spec_model.specs.Check.{noRawType}
+use Rattle.spec_model.specs.Check.{no_raw_type}
 use Rattle.table_record.specs.Store.{types_in}
 use Rattle.table_check_links.proofs.Steps.{ends, goes}
-use Rattle.state_check_records.specs.Parts.{refAs}
+use Rattle.state_check_records.specs.Parts.{ref_as}
 use Rattle.state_check_records.proofs.Steps.{out, inside}
 use Rattle.state_check_records.proofs.cell_fits.Statement.{statement}
 use Rattle.state_check_records.proofs.cell_fits.Tie as tie
@@ -45,7 +45,7 @@ returns-4 c = let a = c.before.before.before.before.before.before.before.before.
     (inside _ _ _ c.before.before.before.before.before.before.before.before.wide.ensures.0 c.before.before.before.before.before.before.if1.false)
     (goes (ltb a.x.place a.places) _ _ (inside _ _ _ c.before.before.before.before.before.wide2.ensures.0 c.before.before.before.before.if2.false)
     (goes (ltb a.x.ty a.c.sheet) _ _ (inside _ _ _ c.before.before.before.wide3.ensures.0 c.before.if3.false)
-    (c.is-ref.ensures ∙ ap (λ (i : ℕ). refAs (get_or (types_in a.b.now) i noRawType)) c.before.before.before.wide3.ensures.0)))
+    (c.is-ref.ensures ∙ ap (λ (i : ℕ). ref_as (get_or (types_in a.b.now) i no_raw_type)) c.before.before.before.wide3.ensures.0)))
 
 pub cell-fits-spec : {M : Type 1} → statement M
 cell-fits-spec =

@@ -2,10 +2,10 @@
 use mathlib.Core.Path.{ap, sym, ◌∙◌}
 use Prim.Native.Nat.{ℕ}
 use borrow.Author.Rules.{rules}
-use Rattle.spec_model.specs.Crossing.{placeType}
+use Rattle.spec_model.specs.Crossing.{place_type}
 use Rattle.table_record.specs.Store.{types_in}
-use Rattle.state_record.specs.View.{place_of, behindOf}
-use Rattle.state_check_records.specs.Parts.{objectAccepted, adapterAccepted}
+use Rattle.state_record.specs.View.{place_of, behind_of}
+use Rattle.state_check_records.specs.Parts.{object_accepted, adapter_accepted}
 use Rattle.state_check_records.proofs.Steps.{place-object, place-adapter}
 use Rattle.state_check_records.proofs.place_fits.Statement.{statement}
 use Rattle.state_check_records.proofs.place_fits.Tie as tie
@@ -25,8 +25,8 @@ object-fits-requires c κs = c.before.before.before.before.requires
 returns : tie.Need-returns
 returns c = let a = c.before.before.before.before.before.args in
     let x = place_of a.x.place in
-    c.object-fits.ensures ∙ ap (λ (n : ℕ). objectAccepted (types_in a.b.now) a.c n c.before.place-owner.result) c.before.before.before.before.place-type.ensures.0
-    ∙ ap (λ (n : ℕ). objectAccepted (types_in a.b.now) a.c (placeType x) n) c.before.place-owner.ensures.0
+    c.object-fits.ensures ∙ ap (λ (n : ℕ). object_accepted (types_in a.b.now) a.c n c.before.place-owner.result) c.before.before.before.before.place-type.ensures.0
+    ∙ ap (λ (n : ℕ). object_accepted (types_in a.b.now) a.c (place_type x) n) c.before.place-owner.ensures.0
     ∙ place-object (types_in a.b.now) a.c a.p x (sym c.before.before.before.is-object.ensures ∙ c.before.before.if1.true)
 
 place-behind-requires : tie.Need-place-behind-requires
@@ -38,8 +38,8 @@ adapter-fits-requires c κs = c.before.before.before.before.requires
 returns-2 : tie.Need-returns-2
 returns-2 c = let a = c.before.before.before.before.before.args in
     let x = place_of a.x.place in
-    c.adapter-fits.ensures ∙ ap (λ (n : ℕ). adapterAccepted (types_in a.b.now) a.c a.p n c.before.before.before.before.place-type.result) c.before.place-behind.ensures.0
-    ∙ ap (λ (n : ℕ). adapterAccepted (types_in a.b.now) a.c a.p (behindOf x) n) c.before.before.before.before.place-type.ensures.0
+    c.adapter-fits.ensures ∙ ap (λ (n : ℕ). adapter_accepted (types_in a.b.now) a.c a.p n c.before.before.before.before.place-type.result) c.before.place-behind.ensures.0
+    ∙ ap (λ (n : ℕ). adapter_accepted (types_in a.b.now) a.c a.p (behind_of x) n) c.before.before.before.before.place-type.ensures.0
     ∙ place-adapter (types_in a.b.now) a.c a.p x (sym c.before.before.before.is-object.ensures ∙ c.before.before.if1.false)
 
 pub place-fits-spec : {M : Type 1} → statement M

@@ -25,7 +25,7 @@ returns c = λ l js. let i = c in let a = i.before.before.before.args in
     (rw (to_z-of_z i.before.before.before.ranges.cell) at i.before.index_of.ensures) i.if1.true
 
 cell-from-requires : tie.Need-cell-from-requires
-cell-from-requires c κs = omega (arith, c.if1.false, c.before.before.before.requires.cellsFew)
+cell-from-requires c κs = omega (arith, c.if1.false, c.before.before.before.requires.cells_few)
 
 wide-requires : tie.Need-wide-requires
 wide-requires c κs = search rules
@@ -36,7 +36,7 @@ place-from-requires c κs = let i = c.before.before in let a = i.before.before.b
     let low = bytes-placed f a.cell a.chain.now i.before.index_of.result
     (rw (to_z-of_z i.before.before.before.ranges.cell) at i.before.index_of.ensures)
     i.before.before.before.requires i.if1.false c.before.cell-from.result c.before.cell-from.ensures c.wide.result c.wide.ensures.0 in
-    omega (arith, low, i.before.before.before.requires.placesFew)
+    omega (arith, low, i.before.before.before.requires.places_few)
 
 wide-requires-2 : tie.Need-wide-requires-2
 wide-requires-2 c κs = search rules

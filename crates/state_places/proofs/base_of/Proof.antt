@@ -6,15 +6,15 @@ use native.Mathlib.Omega.{arith}
 use lib.ListN.{get_or}
 use borrow.Author.Rules.{rules}
 use borrow.Author.Tests.{not-true, not-false}
-use Rattle.spec_model.specs.Crossing.{Place as Placeᵐ, placeAt, base_of, maxPlaces}
-use Rattle.state_record.specs.View.{placesIn, place_of, blankPlace, isObject, behindOf}
+use Rattle.spec_model.specs.Crossing.{Place as Placeᵐ, place_at, base_of, max_places}
+use Rattle.state_record.specs.View.{places_in, place_of, blank_place, is_object, behind_of}
 use Rattle.state_record.proofs.Laws.{place_is}
 use Rattle.state_places.proofs.Laws.{goes-below, base-ends, base_goes, based}
 use Rattle.state_places.proofs.base_of.Statement.{statement}
 use Rattle.state_places.proofs.base_of.Tie as tie
 
 abbrev invariant-loop : tie.invariant-loop
-invariant-loop p ps base₀ base = (base < ps.count) × (base_of (placesIn ps) p ≡ base_of (placesIn ps) base)
+invariant-loop p ps base₀ base = (base < ps.count) × (base_of (places_in ps) p ≡ base_of (places_in ps) base)
 
 abbrev decreases-loop : tie.decreases-loop
 decreases-loop p ps base₀ base = base
@@ -23,19 +23,19 @@ decreases-loop p ps base₀ base = base
 abbrev Top : Type 0
 Top = tie.At-loop invariant-loop decreases-loop
 
-inside : (c : Top) → c.loop.base < maxPlaces
+inside : (c : Top) → c.loop.base < max_places
 inside c = omega (arith, c.loop.invariant.0, c.before.requires.0.count)
 
 abbrev here : Top → Placeᵐ
-here c = place_of (get_or c.before.args.t1.list c.loop.base blankPlace).place
+here c = place_of (get_or c.before.args.t1.list c.loop.base blank_place).place
 
-counted : (c : Top) → here c ≡ placeAt (placesIn c.before.args.t1) c.loop.base
+counted : (c : Top) → here c ≡ place_at (places_in c.before.args.t1) c.loop.base
 counted c = sym (place_is c.before.args.t1 c.loop.base c.loop.invariant.0)
 
-adapter : (c : tie.Then1 invariant-loop decreases-loop) → isObject (here c.before.before.before) ≡ false
+adapter : (c : tie.Then1 invariant-loop decreases-loop) → is_object (here c.before.before.before) ≡ false
 adapter c = sym c.before.is-object.ensures ∙ not-true _ c.if1.true
 
-below : (c : Top) → isObject (here c) ≡ false → behindOf (here c) < c.loop.base
+below : (c : Top) → is_object (here c) ≡ false → behind_of (here c) < c.loop.base
 below c = goes-below c.before.args.t1 c.before.requires.0 c.loop.base c.loop.invariant.0 (here c) (counted c)
 
 loop-holds : tie.Need-loop-init invariant-loop decreases-loop
@@ -66,7 +66,7 @@ loop-again : tie.Need-loop-preserved invariant-loop decreases-loop
 loop-again c = let top = c.before.before.before.before.before in let a = top.before in let l = top.loop in (
   omega (arith, below top (adapter c.before.before), l.invariant.0, c.place-behind.ensures.0),
   l.invariant.1 ∙ base_goes a.args.t1 a.requires.0 l.base l.invariant.0 (here top) (counted top) (adapter c.before.before)
-      ∙ ap (base_of (placesIn a.args.t1)) (sym c.place-behind.ensures.0),
+      ∙ ap (base_of (places_in a.args.t1)) (sym c.place-behind.ensures.0),
 )
 
 returns : tie.Need-returns invariant-loop decreases-loop

@@ -3,8 +3,8 @@ use mathlib.Core.Path.{ap, ◌∙◌}
 use Prim.Native.Nat.{ℕ}
 use native.Mathlib.Omega.{arith}
 use borrow.Author.Rules.{rules}
-use Rattle.spec_model.specs.Crossing.{placeAt, ownerOf}
-use Rattle.state_record.specs.View.{placesIn}
+use Rattle.spec_model.specs.Crossing.{place_at, owner_of}
+use Rattle.state_record.specs.View.{places_in}
 use Rattle.state_places.proofs.base_owner.Statement.{statement}
 use Rattle.state_places.proofs.base_owner.Tie as tie
 
@@ -19,7 +19,7 @@ place-owner-requires c κs = search rules
 
 returns : tie.Need-returns
 returns c = let b = c.before.before.base-of.ensures in (
-  c.place-owner.ensures.0 ∙ ap ownerOf (c.before.place_at.ensures.1 b.below) ∙ ap (λ (n : ℕ). ownerOf (placeAt (placesIn c.before.before.before.args.ps) n)) b.is,
+  c.place-owner.ensures.0 ∙ ap owner_of (c.before.place_at.ensures.1 b.below) ∙ ap (λ (n : ℕ). owner_of (place_at (places_in c.before.before.before.args.ps) n)) b.is,
   c.place-owner.ensures.1,
 )
 

@@ -5,8 +5,8 @@ use native.Mathlib.Omega.{arith}
 use lib.ListN.{get_or, set}
 use borrow.Author.Rules.{rules}
 use borrow.Author.Tests.{not-true, not-false}
-use Rattle.spec_model.specs.Crossing.{Place as Placeᵐ, placeAt, maxPlaces}
-use Rattle.state_record.specs.View.{placesIn, place_of, blankPlace}
+use Rattle.spec_model.specs.Crossing.{Place as Placeᵐ, place_at, max_places}
+use Rattle.state_record.specs.View.{places_in, place_of, blank_place}
 use Rattle.state_record.proofs.Laws.{place_is}
 use Rattle.state_places.proofs.Walk.{Walk, walk-starts, walk-goes, walk_ends}
 use Rattle.state_places.proofs.layers_of.Statement.{statement}
@@ -22,16 +22,16 @@ decreases-loop p ps list₀ count₀ at₀ list count at = at
 abbrev Top : Type 0
 Top = tie.At-loop invariant-loop decreases-loop
 
-inside : (c : Top) → c.loop.at < maxPlaces
+inside : (c : Top) → c.loop.at < max_places
 inside c = omega (arith, c.loop.invariant.inside, c.before.requires.0.count)
 
 abbrev here : Top → Placeᵐ
-here c = place_of (get_or c.before.args.t1.list c.loop.at blankPlace).place
+here c = place_of (get_or c.before.args.t1.list c.loop.at blank_place).place
 
-counted : (c : Top) → here c ≡ placeAt (placesIn c.before.args.t1) c.loop.at
+counted : (c : Top) → here c ≡ place_at (places_in c.before.args.t1) c.loop.at
 counted c = sym (place_is c.before.args.t1 c.loop.at c.loop.invariant.inside)
 
-room : (c : Top) → c.loop.count < maxPlaces
+room : (c : Top) → c.loop.count < max_places
 room c = omega (arith, c.loop.invariant.room, c.before.requires.1, c.before.requires.0.count)
 
 -- after a turn: the place behind lies below, and the walk is one layer longer

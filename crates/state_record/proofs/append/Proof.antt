@@ -11,7 +11,7 @@ use Rattle.state_record.proofs.Logic.{free0, WpFn-mono, owns, pure_i, Is, shows,
 use Rattle.state_record.proofs.Logic.{slice_val, MutSlice, Room, heres, at-slice, coded_holeys, slice-vals, mut_slice_Tells, owned, nothing, Vals, on_entry, Meets, triple_of, entered, says}
 use Rattle.state_record.proofs.Logic.{needs, Stays, stay_none, stay_slice, walk_of, Goes-none, Goes-slice, Walks, ends_at, walked, walk_Meets, yes}
 use Rattle.state_record.specs.declared.Cell.{Cell}
-use Rattle.state_record.specs.View.{blankCell}
+use Rattle.state_record.specs.View.{blank_cell}
 use Rattle.state_record.proofs.CellRow.{R, low, vals, tells, offset-fits, makes, lawful}
 use Rattle.state_record.specs.contracts.append.Key.{name as #append}
 use Rattle.state_record.specs.contracts.append as fn
@@ -46,7 +46,7 @@ module _ {M : Type 1} {𝓤 : Ura M} (𝓛 : Logic 𝓤) (mem : Memory → SProp
   -- what is left where the slice is closed
   abbrev left : List (Item 𝓤)
   left = ‵ (fobs γ ((coded_holeys R).code (heres R new))) ∷ ‵ (fbor κ (Held R (length new) b o γ)) ∷ ‵ (flft κ q)
-      ∷ ‵ (fsep (usize.own_val k (vint w64 k ∷ [])) (fsep (R.own c (low c ∷ [])) ftrue)) ∷ []
+      ∷ ‵ (fsep (usize.own k (vint w64 k ∷ [])) (fsep (R.own c (low c ∷ [])) ftrue)) ∷ []
 
   exits : Room R (length xs) → ent 𝓤 (⋆ 𝓛 left) (Post vunit)
   exits room =
@@ -71,7 +71,7 @@ module _ {M : Type 1} {𝓤 : Ura M} (𝓛 : Logic 𝓤) (mem : Memory → SProp
         assigns ! (bin ! (load ! (from ! (fld ! refl (stop !))) (look_in ! 8 (sub ! 0 refl (whole !)))) (load ! (from ! (stop !)) (look ! 2 refl)) tt) (from ! (stop !)) (init ! 0 refl (tt, tt)) $
         rewrite ! 0 (λ (p : ℕ). ‵ (fat full_share ty_ptr l₅ 0 (vptr b p))) (sym (place_is 3 o k)) refl $
         move ! (13 ∷ []) $ fsplit ! $ fsplit ! $ move ! (1 ∷ []) $ fsplit ! $ move ! (16 ∷ []) $ split ! $ move ! (2 ∷ 3 ∷ 0 ∷ []) $
-        opens_slice ! tt R xs b o $ elem_out ! R (Is R) (shows 𝓛 R) vals tells full_share xs k blankCell b o within (λ _.
+        opens_slice ! tt R xs b o $ elem_out ! R (Is R) (shows 𝓛 R) vals tells full_share xs k blank_cell b o within (λ _.
         -- [the record; what it owns; the others; the open borrow; obs; auth; true; the facts of cells; of k and c; _5; …; _4; …; _3; …; _2; …; _1; …; room for _0; …]
         assigns ! (of_opd ! (load ! (from ! (stop !)) (look ! 13 refl))) (from ! (hop ! (look ! 9 refl) (stop !))) (store_raw ! 0 refl ((lawful 𝓛).typed c _ is).0) $
         move ! (1 ∷ []) $ drop ! $ owned ! R (Is R) (makes 𝓛) c _ is $ move ! (1 ∷ 0 ∷ []) $ elem_put ! R full_share xs k c (low c ∷ []) b o within $

@@ -10,9 +10,9 @@ use Rattle.state_record.proofs.Logic.{pass0, free1, free0, lft_new, lft_end, FmC
 use Rattle.state_record.proofs.Logic.{uint_Makes, Nothing-Lawful, usize, unit, RefT, plain, array_of, slice_ty, slice_val, MutSlice, owned, peeks, heard, nothing, Contract, Triple, calls_at}
 use Rattle.state_record.proofs.Logic.{ensured, lasts, Vals, on_entry, Meets, triple_of, entered, cited, says, needs, Stays, stay_dropped, walk_of, Goes-dropped, Walks, ends_at, walked}
 use Rattle.state_record.proofs.Logic.{walk_Meets, yes}
-use Rattle.spec_model.specs.Requests.{maxCells}
+use Rattle.spec_model.specs.Requests.{max_cells}
 use Rattle.state_record.specs.declared.Cell.{Cell}
-use Rattle.state_record.proofs.Loan.{arrayTy, lends-mut, back-mut}
+use Rattle.state_record.proofs.Loan.{array_ty, lends-mut, back-mut}
 use Rattle.state_record.proofs.CellRow.{R, low, vals, tells, lows, room, makes, lawful, array}
 use Rattle.state_record.specs.contracts.append as callee
 use Rattle.state_record.proofs.append.Symbol as callee-def
@@ -24,7 +24,7 @@ use Rattle.state_record.proofs.appended.Statement as stated
 use Rattle.state_record.proofs.appended.Code as code
 
 abbrev stayed : Stays (fn.ended).signature.params (fn.ended).kept
-stayed = (stay_dropped (array_of (plain (λ _. R)) maxCells) yes, (stay_dropped (plain (λ _. usize)) yes, (stay_dropped (plain (λ _. R)) yes, tt)))
+stayed = (stay_dropped (array_of (plain (λ _. R)) max_cells) yes, (stay_dropped (plain (λ _. usize)) yes, (stay_dropped (plain (λ _. R)) yes, tt)))
 
 module _ {M : Type 1} {𝓤 : Ura M} (𝓛 : Logic 𝓤) (mem : Memory → SProp 𝓤) (run : Routine → Fun 𝓤) where
   -- the contract that is cited
@@ -32,10 +32,10 @@ module _ {M : Type 1} {𝓤 : Ura M} (𝓛 : Logic 𝓤) (mem : Memory → SProp
   Append = triple_of 𝓛 callee.signature (callee.spec 𝓛 mem run)
 
 module _ {M : Type 1} {𝓤 : Ura M} (𝓛 : Logic 𝓤) (mem : Memory → SProp 𝓤) (run : Routine → Fun 𝓤)
-    (xs : List Cell) (k : ℕ) (c : Cell) (is : Is (Array R maxCells) xs (lows xs ∷ [])) (fits : k < 2 ^ 64) (is_c : Is R c (low c ∷ [])) (within : k < maxCells) where
+    (xs : List Cell) (k : ℕ) (c : Cell) (is : Is (Array R max_cells) xs (lows xs ∷ [])) (fits : k < 2 ^ 64) (is_c : Is R c (low c ∷ [])) (within : k < max_cells) where
   open 𝓛 use {H, A}
 
-  long : length xs ≡ maxCells
+  long : length xs ≡ max_cells
   long = is.1.0.1
 
   abbrev args : List Cell × (ℕ × (Cell × Unit {0}))
@@ -47,9 +47,9 @@ module _ {M : Type 1} {𝓤 : Ura M} (𝓛 : Logic 𝓤) (mem : Memory → SProp
   abbrev Post : Val → SProp 𝓤
   Post = (walk_of 𝓛 fn.ended stayed (fn.clauses 𝓛 mem run)).post ((tt, tt, tt, args, at), tt)
 
-  exits : (ys : List Cell) (u : Val) → ys ≡ set xs k c → ent 𝓤 (sem 𝓛 ((Array R maxCells).own_val ys (u ∷ []))) (Post u)
+  exits : (ys : List Cell) (u : Val) → ys ≡ set xs k c → ent 𝓤 (sem 𝓛 ((Array R max_cells).own ys (u ∷ []))) (Post u)
   exits ys u e =
-      qed 𝓛 (‵ ((Array R maxCells).own_val ys (u ∷ [])) ∷ []) ∵
+      qed 𝓛 (‵ ((Array R max_cells).own ys (u ∷ [])) ∷ []) ∵
       suffices ! _ (ends_at 𝓛 fn.ended stayed (fn.clauses 𝓛 mem run) ((tt, tt, tt, args, at), tt) u ys (tt, (tt, (tt, tt))) (tt, (tt, (tt, tt)))) $
       says ! e $ nothing ! $ nothing ! $ fjoin ! $ nothing ! $ fjoin ! $ nothing ! $ fjoin ! $ nothing ! $ done !
 
@@ -62,7 +62,7 @@ module _ {M : Type 1} {𝓤 : Ura M} (𝓛 : Logic 𝓤) (mem : Memory → SProp
     slice = slice_val (l, 0) (length xs)
 
     abbrev slice-own : Fml
-    slice-own = (MutSlice (named 0) (α ∷ []) R).own_val lent (slice ∷ [])
+    slice-own = (MutSlice (named 0) (α ∷ []) R).own lent (slice ∷ [])
 
     abbrev to : (Append 𝓛 mem run).Ghost
     to = (((α ∷ [], tt), (full_share, tt), tt, (lent, (k, (c, tt))), (slice ∷ [], (vint w64 k ∷ [], (low c ∷ [], tt)))), tt)
@@ -100,12 +100,12 @@ module _ {M : Type 1} {𝓤 : Ura M} (𝓛 : Logic 𝓤) (mem : Memory → SProp
         -- _4 is lent for a lifetime that is made here
         lft_new ! tt (λ α. move ! (7 ∷ []) $
         use1 𝓛 (later (some (λ (γ : GName). ‵ (slice-own l₄ α γ) ⊛ ‵ (flent (α ∷ []) (Held R (length xs) l₄ 0 γ)))))
-        (lends-mut R maxCells tt vals tells 𝓛 (makes 𝓛) xs l₄ 0 (named 0) (α ∷ []) is (room xs long)) $ await ! tt $ pick ! (λ γ. split ! $
+        (lends-mut R max_cells tt vals tells 𝓛 (makes 𝓛) xs l₄ 0 (named 0) (α ∷ []) is (room xs long)) $ await ! tt $ pick ! (λ γ. split ! $
         -- [the slice; the lender's part; the token; _7; …]
         nothing ! $ move ! (3 ∷ 0 ∷ []) $ join ! $ use2 𝓛 (raw ((Append 𝓛 mem run).pre (to l₄ α γ))) (asked l₄ α γ) $
         calls_at ! fm (Append 𝓛 mem run) known (to l₄ α γ)
         (and_then ! (load ! (from ! (stop !)) (look ! 2 refl)) (and_then ! (load ! (from ! (stop !)) (look ! 11 refl)) (and_then ! (load ! (from ! (stop !)) (look ! 9 refl)) (no_more !)))) (λ u.
-        use1 𝓛 (later (some (λ (r : Unit {0}). ((‵ (flft (α ∷ []) full_share) ⊛ ‵ ftrue) ⊛ ‵ (unit.own_val r (u ∷ []))) ⊛ raw (Promised l₄ α γ r))))
+        use1 𝓛 (later (some (λ (r : Unit {0}). ((‵ (flft (α ∷ []) full_share) ⊛ ‵ ftrue) ⊛ ‵ (unit.own r (u ∷ []))) ⊛ raw (Promised l₄ α γ r))))
         (id⊢ 𝓤 _) $ await ! tt $ pick ! (λ r.
         split ! $ move ! (1 ∷ []) $ use1 𝓛 (some (λ (ys : Left l₄ α γ). ‵ (left l₄ α γ ys) ⊛ raw (fact 𝓤 (ys.0 ≡ set xs k c)))) (id⊢ 𝓤 _) $ pick ! (λ ys.
         split ! $ move ! (1 ∷ []) $ heard ! (ys.0 ≡ set xs k c) (λ e. fsplit ! $ fsplit ! $ move ! (1 ∷ []) $ feq_l ! (λ len.
@@ -114,9 +114,9 @@ module _ {M : Type 1} {𝓤 : Ura M} (𝓛 : Logic 𝓤) (mem : Memory → SProp
         peeks ! unit (Is unit) (shows 𝓛 unit) r (u ∷ []) (λ got. land ! (from ! (stop !)) (init ! 9 refl ((Nothing-Lawful 𝓛).typed r _ got).0) $
         -- the lifetime ends, and _4 is back
         move ! (1 ∷ []) $ split ! $ lft_end ! tt $ move ! (0 ∷ 5 ∷ 3 ∷ []) $
-        use3 𝓛 (later (‵ (fat full_share (arrayTy R maxCells tt vals tells) l₄ 0 (lows ys.0)) ⊛ ‵ ((Array R maxCells).own_val ys.0 (lows ys.0 ∷ []))))
-        (back-mut R maxCells tt vals tells 𝓛 (makes 𝓛) ys.0 l₄ 0 (α ∷ []) γ (length xs) (len ∙ long)) $ await ! tt $ split ! $ move ! (1 ∷ []) $
-        peeks ! (Array R maxCells) (Is (Array R maxCells)) (shows 𝓛 (Array R maxCells)) ys.0 (lows ys.0 ∷ []) (λ is'.
+        use3 𝓛 (later (‵ (fat full_share (array_ty R max_cells tt vals tells) l₄ 0 (lows ys.0)) ⊛ ‵ ((Array R max_cells).own ys.0 (lows ys.0 ∷ []))))
+        (back-mut R max_cells tt vals tells 𝓛 (makes 𝓛) ys.0 l₄ 0 (α ∷ []) γ (length xs) (len ∙ long)) $ await ! tt $ split ! $ move ! (1 ∷ []) $
+        peeks ! (Array R max_cells) (Is (Array R max_cells)) (shows 𝓛 (Array R max_cells)) ys.0 (lows ys.0 ∷ []) (λ is'.
         -- [what the array owns; _4; true; …; …; _7; …; _6; …; _5; …; what frees _4; _3; …; _2; …; _1; …; room for _0; …]
         assigns ! (of_opd ! (load ! (from ! (stop !)) (look ! 1 refl))) (from ! (stop !)) (init ! 18 refl ((array 𝓛).typed ys.0 _ is').0) $
         returns ! (look ! 18 refl) $ forget ! 1 refl $ forget ! 5 refl $ forget ! 7 refl $ forget ! 9 refl $
@@ -132,14 +132,14 @@ module _ {M : Type 1} {𝓤 : Ura M} (𝓛 : Logic 𝓤) (mem : Memory → SProp
       → Walks 𝓛 fn.ended stayed (WpFn 𝓤 H C Λ code.function) (fn.clauses 𝓛 mem run)
   walks C Λ fm known =
       walked 𝓛 fn.ended stayed (fn.clauses 𝓛 mem run) (WpFn 𝓤 H C Λ code.function) (λ κs. (array_vals vals, (uint_vals w64, (vals, tt))))
-      (λ κs. (Array-Tells R vals tells maxCells, (uint_Tells w64, (tells, tt))))
-      (λ κs qs bounds a g are. needs 𝓤 (a.1.0 < maxCells) _
+      (λ κs. (Array-Tells R vals tells max_cells, (uint_Tells w64, (tells, tt))))
+      (λ κs qs bounds a g are. needs 𝓤 (a.1.0 < max_cells) _
       (λ within. walk 𝓛 mem run a.0 a.1.0 a.1.1.0 are.0 are.1.0.1 are.1.1.0 within C Λ fm known))
 
   meets : (𝓣 : Tables 𝓤 H) → Triple 𝓤 (𝓣.C #append) (Append 𝓛 mem run) → Meets 𝓛 fn.signature (WpFn 𝓤 H 𝓣.C 𝓣.Λ code.function) (fn.spec 𝓛 mem run)
   meets 𝓣 known =
       walk_Meets 𝓛 fn.ended stayed (
-        Goes-dropped 𝓛 0 (array_of (plain (λ _. R)) maxCells) yes (λ κs x f. refl),
+        Goes-dropped 𝓛 0 (array_of (plain (λ _. R)) max_cells) yes (λ κs x f. refl),
         (Goes-dropped 𝓛 0 (plain (λ _. usize)) yes (λ κs x f. refl), (Goes-dropped 𝓛 0 (plain (λ _. R)) yes (λ κs x f. refl), tt)),
       )
       (fn.clauses 𝓛 mem run) (WpFn 𝓤 H 𝓣.C 𝓣.Λ code.function) (WpFn-mono 𝓤 H 𝓛.laws 𝓣 code.function) (walks 𝓣.C 𝓣.Λ (fm_of 𝓤 H 𝓛.laws 𝓣) known)

@@ -9,10 +9,10 @@ use Rattle.state_record.proofs.Logic.{look, init, forget, stop, from, load, lit,
 use Rattle.state_record.proofs.Logic.{free0, arr_parts, lft_new, lft_end, FmC, fm_of, WpFn-mono, Array, array_vals, Array-Tells, Is, shows, pointee, shares, uint_vals, uint_Tells, uint_Makes}
 use Rattle.state_record.proofs.Logic.{usize, RefT, plain, array_of, slice_ty, slice_val, ShrSlice, owned, peeks, heard, nothing, Contract, Triple, calls_at, ensured, lasts, Vals, on_entry}
 use Rattle.state_record.proofs.Logic.{Meets, triple_of, entered, cited, says, needs, Stays, stay_dropped, walk_of, Goes-dropped, Walks, ends_at, walked, walk_Meets, yes}
-use Rattle.spec_model.specs.Requests.{maxCells}
+use Rattle.spec_model.specs.Requests.{max_cells}
 use Rattle.state_record.specs.declared.Cell.{Cell}
-use Rattle.state_record.specs.View.{blankCell}
-use Rattle.state_record.proofs.Loan.{arrayTy, lends, back}
+use Rattle.state_record.specs.View.{blank_cell}
+use Rattle.state_record.proofs.Loan.{array_ty, lends, back}
 use Rattle.state_record.proofs.CellRow.{R, vals, tells, lows, room, makes, lawful, array}
 use Rattle.state_record.specs.contracts.lookup as callee
 use Rattle.state_record.proofs.lookup.Symbol as callee-def
@@ -24,7 +24,7 @@ use Rattle.state_record.proofs.looked_up.Statement as stated
 use Rattle.state_record.proofs.looked_up.Code as code
 
 abbrev stayed : Stays (fn.ended).signature.params (fn.ended).kept
-stayed = (stay_dropped (array_of (plain (λ _. R)) maxCells) yes, (stay_dropped (plain (λ _. usize)) yes, tt))
+stayed = (stay_dropped (array_of (plain (λ _. R)) max_cells) yes, (stay_dropped (plain (λ _. usize)) yes, tt))
 
 module _ {M : Type 1} {𝓤 : Ura M} (𝓛 : Logic 𝓤) (mem : Memory → SProp 𝓤) (run : Routine → Fun 𝓤) where
   -- the contract that is cited
@@ -32,13 +32,13 @@ module _ {M : Type 1} {𝓤 : Ura M} (𝓛 : Logic 𝓤) (mem : Memory → SProp
   Lookup = triple_of 𝓛 callee.signature (callee.spec 𝓛 mem run)
 
 module _ {M : Type 1} {𝓤 : Ura M} (𝓛 : Logic 𝓤) (mem : Memory → SProp 𝓤) (run : Routine → Fun 𝓤)
-    (xs : List Cell) (k : ℕ) (is : Is (Array R maxCells) xs (lows xs ∷ [])) (fits : k < 2 ^ 64) (within : k < maxCells) where
+    (xs : List Cell) (k : ℕ) (is : Is (Array R max_cells) xs (lows xs ∷ [])) (fits : k < 2 ^ 64) (within : k < max_cells) where
   open 𝓛 use {H, A}
 
   abbrev c : Cell
-  c = get_or xs k blankCell
+  c = get_or xs k blank_cell
 
-  long : length xs ≡ maxCells
+  long : length xs ≡ max_cells
   long = is.1.0.1
 
   abbrev at : Vals fn.signature tt
@@ -62,7 +62,7 @@ module _ {M : Type 1} {𝓤 : Ura M} (𝓛 : Logic 𝓤) (mem : Memory → SProp
     slice = slice_val (l, 0) (length xs)
 
     abbrev slice-own : Fml
-    slice-own = (ShrSlice (named 0) (α ∷ []) R).own_val lent (slice ∷ [])
+    slice-own = (ShrSlice (named 0) (α ∷ []) R).own lent (slice ∷ [])
 
     abbrev to : (Lookup 𝓛 mem run).Ghost
     to = (((α ∷ [], tt), (full_share, tt), tt, (lent, (k, tt)), (slice ∷ [], (vint w64 k ∷ [], tt))), tt)
@@ -95,7 +95,7 @@ module _ {M : Type 1} {𝓤 : Ura M} (𝓛 : Logic 𝓤) (mem : Memory → SProp
         -- _3 is lent for a lifetime that is made here
         lft_new ! tt (λ α. move ! (5 ∷ []) $
         use1 𝓛 (later (some (λ (γ : GName). ‵ (slice-own l₃ α γ) ⊛ ‵ (flent (α ∷ []) ((arr_parts (shares R) (length xs)).part full_share xs l₃ 0)))))
-        (lends R maxCells tt vals tells 𝓛 (makes 𝓛) xs l₃ 0 (named 0) (α ∷ []) is (room xs long)) $ await ! tt $ pick ! (λ γ. split ! $
+        (lends R max_cells tt vals tells 𝓛 (makes 𝓛) xs l₃ 0 (named 0) (α ∷ []) is (room xs long)) $ await ! tt $ pick ! (λ γ. split ! $
         -- [the slice; the lender's part; the token; _5; …]
         nothing ! $ move ! (3 ∷ 0 ∷ []) $ join ! $ use2 𝓛 (raw ((Lookup 𝓛 mem run).pre (to l₃ α γ))) (asked l₃ α γ) $
         calls_at ! fm (Lookup 𝓛 mem run) known (to l₃ α γ)
@@ -106,8 +106,8 @@ module _ {M : Type 1} {𝓤 : Ura M} (𝓛 : Logic 𝓤) (mem : Memory → SProp
         -- [the result; the token; the lender's part; _5; …; _4; …; what frees _3; _2; …; _1; …; room for _0; …]
         peeks ! R (Is R) (shows 𝓛 R) r (u ∷ []) (λ got. land ! (from ! (stop !)) (init ! 12 refl ((lawful 𝓛).typed r _ got).0) $
         -- the lifetime ends, and _3 is back
-        move ! (1 ∷ []) $ split ! $ lft_end ! tt $ move ! (0 ∷ 3 ∷ []) $ use2 𝓛 (later (‵ (fat full_share (arrayTy R maxCells tt vals tells) l₃ 0 (lows xs))))
-        (back R maxCells tt vals tells 𝓛 (makes 𝓛) xs l₃ 0 (α ∷ []) long) $ await ! tt $
+        move ! (1 ∷ []) $ split ! $ lft_end ! tt $ move ! (0 ∷ 3 ∷ []) $ use2 𝓛 (later (‵ (fat full_share (array_ty R max_cells tt vals tells) l₃ 0 (lows xs))))
+        (back R max_cells tt vals tells 𝓛 (makes 𝓛) xs l₃ 0 (α ∷ []) long) $ await ! tt $
         -- [_3; true; the result; _5; …; _4; …; what frees _3; _2; …; _1; …; _0; …]
         returns ! (look ! 12 refl) $ forget ! 0 refl $ forget ! 3 refl $ forget ! 5 refl $ forget ! 8 refl $ forget ! 10 refl $ forget ! 12 refl $
         move ! (12 ∷ 13 ∷ []) $ free1 ! $ move ! (10 ∷ 11 ∷ []) $ free1 ! $ move ! (8 ∷ 9 ∷ []) $ free1 ! $
@@ -121,13 +121,13 @@ module _ {M : Type 1} {𝓤 : Ura M} (𝓛 : Logic 𝓤) (mem : Memory → SProp
       → Walks 𝓛 fn.ended stayed (WpFn 𝓤 H C Λ code.function) (fn.clauses 𝓛 mem run)
   walks C Λ fm known =
       walked 𝓛 fn.ended stayed (fn.clauses 𝓛 mem run) (WpFn 𝓤 H C Λ code.function) (λ κs. (array_vals vals, (uint_vals w64, tt)))
-      (λ κs. (Array-Tells R vals tells maxCells, (uint_Tells w64, tt)))
-      (λ κs qs bounds a g are. needs 𝓤 (a.1.0 < maxCells) _ (λ within. walk 𝓛 mem run a.0 a.1.0 are.0 are.1.0.1 within C Λ fm known))
+      (λ κs. (Array-Tells R vals tells max_cells, (uint_Tells w64, tt)))
+      (λ κs qs bounds a g are. needs 𝓤 (a.1.0 < max_cells) _ (λ within. walk 𝓛 mem run a.0 a.1.0 are.0 are.1.0.1 within C Λ fm known))
 
   meets : (𝓣 : Tables 𝓤 H) → Triple 𝓤 (𝓣.C #lookup) (Lookup 𝓛 mem run) → Meets 𝓛 fn.signature (WpFn 𝓤 H 𝓣.C 𝓣.Λ code.function) (fn.spec 𝓛 mem run)
   meets 𝓣 known =
       walk_Meets 𝓛 fn.ended stayed
-      (Goes-dropped 𝓛 0 (array_of (plain (λ _. R)) maxCells) yes (λ κs x f. refl), (Goes-dropped 𝓛 0 (plain (λ _. usize)) yes (λ κs x f. refl), tt))
+      (Goes-dropped 𝓛 0 (array_of (plain (λ _. R)) max_cells) yes (λ κs x f. refl), (Goes-dropped 𝓛 0 (plain (λ _. usize)) yes (λ κs x f. refl), tt))
       (fn.clauses 𝓛 mem run) (WpFn 𝓤 H 𝓣.C 𝓣.Λ code.function) (WpFn-mono 𝓤 H 𝓛.laws 𝓣 code.function) (walks 𝓣.C 𝓣.Λ (fm_of 𝓤 H 𝓛.laws 𝓣) known)
 
 pub looked-up-spec : {M : Type 1} → stated.statement M

@@ -10,7 +10,7 @@ use Rattle.state_record.proofs.Logic.{assigns, returns, enter, alloc1, alloc0, p
 use Rattle.state_record.proofs.Logic.{elem_out, elem_back, looks_slice, shuts_slice, RefT, plain, shr_slice_of, slice_val, ShrSlice, Room, slice-vals, shr_slice_Tells, owned, nothing, Vals}
 use Rattle.state_record.proofs.Logic.{on_entry, Meets, triple_of, entered, says, needs, Stays, stay_dropped, walk_of, Goes-dropped, Walks, ends_at, walked, walk_Meets, yes}
 use Rattle.state_record.specs.declared.Cell.{Cell}
-use Rattle.state_record.specs.View.{blankCell}
+use Rattle.state_record.specs.View.{blank_cell}
 use Rattle.state_record.proofs.CellRow.{R, low, vals, tells, offset-fits, makes, lawful, copied}
 use Rattle.state_record.specs.contracts.lookup.Key.{name as #lookup}
 use Rattle.state_record.specs.contracts.lookup as fn
@@ -31,7 +31,7 @@ module _ {M : Type 1} {𝓤 : Ura M} (𝓛 : Logic 𝓤) (mem : Memory → SProp
   at = (slice_val (b, o) (length xs) ∷ [], (vint w64 k ∷ [], tt))
 
   abbrev c : Cell
-  c = get_or xs k blankCell
+  c = get_or xs k blank_cell
 
   abbrev Post : Val → SProp 𝓤
   Post = (walk_of 𝓛 fn.ended stayed (fn.clauses 𝓛 mem run)).post (((κ, tt), (q, tt), tt, args, at), tt)
@@ -58,11 +58,11 @@ module _ {M : Type 1} {𝓤 : Ura M} (𝓛 : Logic 𝓤) (mem : Memory → SProp
         rewrite ! 2 (λ (p : ℕ). ‵ (fat full_share ty_ptr l₄ 0 (vptr b p))) (sym (place_is 3 o k)) refl $
         move ! (13 ∷ []) $ fsplit ! $ fsplit ! $ move ! (1 ∷ []) $ fsplit ! $ move ! (16 ∷ []) $ split ! $ move ! (3 ∷ 0 ∷ []) $
         looks_slice ! tt R (Is R) (shows 𝓛 R) vals tells (copied 𝓛) xs b o (λ q'.
-        elem_out ! R (Is R) (shows 𝓛 R) vals tells q' xs k blankCell b o within (λ is.
+        elem_out ! R (Is R) (shows 𝓛 R) vals tells q' xs k blank_cell b o within (λ is.
         -- [the record; what it owns; the others; what shuts; the borrow; true; the token; the facts of cells and of k; _5; …; _4; …; _3; …; _2; …; _1; …; room for _0; …]
         assigns ! (of_opd ! (load ! (from ! (hop ! (look ! 11 refl) (stop !))) (look_raw ! 0 refl))) (from ! (stop !)) (init ! 9 refl ((lawful 𝓛).typed c _ is).0) $
         assigns ! (of_opd ! (load ! (from ! (stop !)) (look ! 9 refl))) (from ! (stop !)) (init ! 19 refl ((lawful 𝓛).typed c _ is).0) $
-        elem_back ! R q' xs k blankCell (low c ∷ []) b o within $ shuts_slice ! tt R q' xs b o $
+        elem_back ! R q' xs k blank_cell (low c ∷ []) b o within $ shuts_slice ! tt R q' xs b o $
         returns ! (look ! 16 refl) $ forget ! 6 refl $ forget ! 8 refl $ forget ! 10 refl $ forget ! 12 refl $ forget ! 14 refl $ forget ! 16 refl $
         move ! (16 ∷ 17 ∷ []) $ free1 ! $ move ! (14 ∷ 15 ∷ []) $ free1 ! $ move ! (12 ∷ 13 ∷ []) $ free1 ! $
         move ! (10 ∷ 11 ∷ []) $ free1 ! $ move ! (8 ∷ 9 ∷ []) $ free1 ! $ move ! (6 ∷ 7 ∷ []) $ free1 ! $ free0 ! $

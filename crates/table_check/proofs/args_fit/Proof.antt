@@ -4,18 +4,18 @@ use Prim.Native.Nat.{◌-◌, ◌≤◌}
 use native.Mathlib.Omega.{arith}
 use lib.ListN.{length, get_or}
 use borrow.Author.Rules.{rules}
-use Rattle.table_record.specs.Store.{types_in, rawMethod}
-use Rattle.table_check_links.specs.Parts.{eachFrom}
-use Rattle.table_check.specs.Parts.{standsAs, argsAccepted}
+use Rattle.table_record.specs.Store.{types_in, raw_method}
+use Rattle.table_check_links.specs.Parts.{each_from}
+use Rattle.table_check.specs.Parts.{stands_as, args_accepted}
 use Rattle.table_check_links.proofs.Steps.{refused, passed}
 use Rattle.table_check.proofs.Steps.{args-start}
 use Rattle.table_check_links.proofs.Each.{rest-next, rest-broken, rest_end}
 use Rattle.table_check.proofs.args_fit.Statement.{statement}
 use Rattle.table_check.proofs.args_fit.Tie as tie
-use Rattle.spec_model.specs.Records.{argumentSlots}
+use Rattle.spec_model.specs.Records.{argument_slots}
 
 abbrev invariant-loop : tie.invariant-loop
-invariant-loop b n m count i₀ i = (i ≤ count) × (argsAccepted (types_in b) n (rawMethod m) ≡ eachFrom (count - i) i (λ k. standsAs (types_in b) n (get_or m.args k 0)))
+invariant-loop b n m count i₀ i = (i ≤ count) × (args_accepted (types_in b) n (raw_method m) ≡ each_from (count - i) i (λ k. stands_as (types_in b) n (get_or m.args k 0)))
 
 abbrev decreases-loop : tie.decreases-loop
 decreases-loop b n m count i₀ i = count - i
@@ -25,8 +25,8 @@ wide-requires c κs = search rules
 
 loop-holds : tie.Need-loop-init invariant-loop decreases-loop
 loop-holds c = let a = c.before.args in
-    let h : length a.t3.args ≡ argumentSlots = search rules in
-    (omega arith, args-start (standsAs (types_in a.b.now) a.n) a.t3.count c.wide.result a.t3.args c.wide.ensures.0 (omega (arith, c.before.requires.1)))
+    let h : length a.t3.args ≡ argument_slots = search rules in
+    (omega arith, args-start (stands_as (types_in a.b.now) a.n) a.t3.count c.wide.result a.t3.args c.wide.ensures.0 (omega (arith, c.before.requires.1)))
 
 element-copy-out-x : tie.Need-element-copy-out-x invariant-loop decreases-loop
 element-copy-out-x c = omega (arith, c.before.before.wide.ensures.0, c.before.before.before.requires.1)
@@ -40,9 +40,9 @@ stands-in-requires c κs = search rules
 returns : tie.Need-returns invariant-loop decreases-loop
 returns c = let a = c.before.before.before.before.before.before.before.args in
     let l = c.before.before.before.before.before.loop in
-    sym (l.invariant.1 ∙ rest-broken (λ k. standsAs (types_in a.b.now) a.n (get_or a.t3.args k 0)) c.before.before.before.before.before.before.wide.result l.i
+    sym (l.invariant.1 ∙ rest-broken (λ k. stands_as (types_in a.b.now) a.n (get_or a.t3.args k 0)) c.before.before.before.before.before.before.wide.result l.i
     c.before.before.before.before.loop-test.true
-    (ap (standsAs (types_in a.b.now) a.n) (sym c.before.before.wide2.ensures.0) ∙ refused c.before.stands-in.result _ c.before.stands-in.ensures c.if1.true))
+    (ap (stands_as (types_in a.b.now) a.n) (sym c.before.before.wide2.ensures.0) ∙ refused c.before.stands-in.result _ c.before.stands-in.ensures c.if1.true))
 
 add-i : tie.Need-overflow-add-i invariant-loop decreases-loop
 add-i c = search rules
@@ -54,15 +54,15 @@ loop-again : tie.Need-loop-preserved invariant-loop decreases-loop
 loop-again c = let a = c.before.before.before.before.before.before.before.args in
     let l = c.before.before.before.before.before.loop in (
       omega arith,
-      l.invariant.1 ∙ rest-next (λ k. standsAs (types_in a.b.now) a.n (get_or a.t3.args k 0)) c.before.before.before.before.before.before.wide.result l.i
+      l.invariant.1 ∙ rest-next (λ k. stands_as (types_in a.b.now) a.n (get_or a.t3.args k 0)) c.before.before.before.before.before.before.wide.result l.i
           c.before.before.before.before.loop-test.true
-          (ap (standsAs (types_in a.b.now) a.n) (sym c.before.before.wide2.ensures.0) ∙ passed c.before.stands-in.result _ c.before.stands-in.ensures c.if1.false),
+          (ap (stands_as (types_in a.b.now) a.n) (sym c.before.before.wide2.ensures.0) ∙ passed c.before.stands-in.result _ c.before.stands-in.ensures c.if1.false),
     )
 
 returns-2 : tie.Need-returns-2 invariant-loop decreases-loop
 returns-2 c = let a = c.before.before.before.args in
     let l = c.before.loop in
-    sym (l.invariant.1 ∙ rest_end (λ k. standsAs (types_in a.b.now) a.n (get_or a.t3.args k 0)) c.before.before.wide.result l.i c.loop-test.false)
+    sym (l.invariant.1 ∙ rest_end (λ k. stands_as (types_in a.b.now) a.n (get_or a.t3.args k 0)) c.before.before.wide.result l.i c.loop-test.false)
 
 pub args-fit-spec : {M : Type 1} → statement M
 args-fit-spec =

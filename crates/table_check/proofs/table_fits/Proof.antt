@@ -1,8 +1,8 @@
 -- Counts within limits give the callees what they require (`counts-limits`); the parts are the model's check (`accepted-is`).
 use mathlib.Core.Path.{sym, ◌∙◌}
 use borrow.Author.Rules.{rules}
-use Rattle.table_record.specs.Store.{linksIn}
-use Rattle.table_check_links.specs.Parts.{countsAccepted, linksAccepted}
+use Rattle.table_record.specs.Store.{links_in}
+use Rattle.table_check_links.specs.Parts.{counts_accepted, links_accepted}
 use Rattle.table_check_links.proofs.Steps.{refused, passed, ends, goes}
 use Rattle.table_check.proofs.Laws.{counts-limits, accepted-is}
 use Rattle.table_check.proofs.table_fits.Statement.{statement}
@@ -12,7 +12,7 @@ counts-fit-requires : tie.Need-counts-fit-requires
 counts-fit-requires c κs = search rules
 
 returns : tie.Need-returns
-returns c = ends (countsAccepted c.before.before.args.c) _ (refused c.before.counts-fit.result _ c.before.counts-fit.ensures c.if1.true) ∙ sym
+returns c = ends (counts_accepted c.before.before.args.c) _ (refused c.before.counts-fit.result _ c.before.counts-fit.ensures c.if1.true) ∙ sym
     (accepted-is c.before.before.args.b.now c.before.before.args.l.now c.before.before.args.c)
 
 links-fit-requires : tie.Need-links-fit-requires
@@ -20,8 +20,8 @@ links-fit-requires c κs = (counts-limits c.before.before.args.c (passed c.befor
 
 returns-2 : tie.Need-returns-2
 returns-2 c = let a = c.before.before.before.before.args in
-    goes (countsAccepted a.c) _ _ (passed c.before.before.before.counts-fit.result _ c.before.before.before.counts-fit.ensures c.before.before.if1.false)
-    (ends (linksAccepted a.c.cats (linksIn a.l.now)) _ (refused c.before.links-fit.result _ c.before.links-fit.ensures c.if2.true))
+    goes (counts_accepted a.c) _ _ (passed c.before.before.before.counts-fit.result _ c.before.before.before.counts-fit.ensures c.before.before.if1.false)
+    (ends (links_accepted a.c.cats (links_in a.l.now)) _ (refused c.before.links-fit.result _ c.before.links-fit.ensures c.if2.true))
     ∙ sym (accepted-is a.b.now a.l.now a.c)
 
 types-fit-requires : tie.Need-types-fit-requires
@@ -30,8 +30,8 @@ types-fit-requires c κs = counts-limits c.before.before.before.before.args.c
 
 returns-3 : tie.Need-returns-3
 returns-3 c = let a = c.before.before.before.before.before.args in
-    goes (countsAccepted a.c) _ _ (passed c.before.before.before.before.counts-fit.result _ c.before.before.before.before.counts-fit.ensures c.before.before.before.if1.false)
-    (goes (linksAccepted a.c.cats (linksIn a.l.now)) _ _ (passed c.before.before.links-fit.result _ c.before.before.links-fit.ensures c.before.if2.false)
+    goes (counts_accepted a.c) _ _ (passed c.before.before.before.before.counts-fit.result _ c.before.before.before.before.counts-fit.ensures c.before.before.before.if1.false)
+    (goes (links_accepted a.c.cats (links_in a.l.now)) _ _ (passed c.before.before.links-fit.result _ c.before.before.links-fit.ensures c.before.if2.false)
     c.types-fit.ensures)
     ∙ sym (accepted-is a.b.now a.l.now a.c)
 

@@ -5,8 +5,8 @@ use native.Mathlib.Omega.{arith}
 use lib.ListN.{get_or}
 use borrow.Author.Rules.{rules}
 use Rattle.table_record.specs.Store.{types_in}
-use Rattle.spec_model.specs.Check.{noRawType}
-use Rattle.table_check.specs.Parts.{methodsAccepted}
+use Rattle.spec_model.specs.Check.{no_raw_type}
+use Rattle.table_check.specs.Parts.{methods_accepted}
 use Rattle.table_check_links.proofs.Steps.{refused, passed}
 use Rattle.table_check.proofs.Steps.{typed-head, typed-number, typed-own, typed-ref}
 use Rattle.table_check.proofs.type_fits.Statement.{statement}
@@ -52,7 +52,7 @@ returns-4 c =
     let f = c.before.before.before.before.before.before.before.head-fits in
     let own = c.before.before.if3.false in
     c.methods-fit.ensures
-    ∙ ap (λ (n : ℕ). methodsAccepted (types_in a.b.now) n a.c.methods (get_or (types_in a.b.now) a.i noRawType)) c.before.bound.ensures.0
+    ∙ ap (λ (n : ℕ). methods_accepted (types_in a.b.now) n a.c.methods (get_or (types_in a.b.now) a.i no_raw_type)) c.before.bound.ensures.0
     ∙ typed-ref a.c a.i h.result _ h.ensures _ (passed f.result _ f.ensures c.before.before.before.before.before.before.if1.false)
     c.before.before.before.before.if2.false (omega (arith, own))
 

@@ -1,11 +1,11 @@
 -- By computing.
 use borrow.Author.Rules.{rules}
-use Rattle.table_record.specs.Store.{emptyLinks}
+use Rattle.table_record.specs.Store.{empty_links}
 use Rattle.table_record.proofs.empty_links.Statement.{statement}
 use Rattle.table_record.proofs.empty_links.Tie as tie
 
 returns : tie.Need-returns
-unfolding emptyLinks
+unfolding empty_links
 returns c = search rules
 
 pub empty-links-spec : {M : Type 1} → statement M

@@ -1,7 +1,7 @@
 -- The head of type i is read from its six bytes, which are where the view has them (`type-in`).
 use mathlib.Core.Path.{ap, sym}
 use borrow.Author.Rules.{rules}
-use Rattle.spec_model.specs.Check.{noRawType}
+use Rattle.spec_model.specs.Check.{no_raw_type}
 use Rattle.table_record.specs.Store.{head_of}
 use Rattle.table_record.proofs.Laws.{type-in}
 use Rattle.table_record.proofs.get_head.Statement.{statement}
@@ -47,7 +47,7 @@ returns : tie.Need-returns
 returns c =
     ap head_of
     (sym
-    (type-in c.before.before.before.before.before.before.args.b.now c.before.before.before.before.before.before.args.i noRawType
+    (type-in c.before.before.before.before.before.before.args.b.now c.before.before.before.before.before.before.args.i no_raw_type
     c.before.before.before.before.before.before.requires))
 
 pub get-head-spec : {M : Type 1} → statement M

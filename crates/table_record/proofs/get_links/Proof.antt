@@ -1,7 +1,7 @@
 -- The links of a category are read from its three bytes, which are where the view has them (`links-in`).
 use mathlib.Core.Path.{sym}
 use borrow.Author.Rules.{rules}
-use Rattle.spec_model.specs.Check.{noRawLinks}
+use Rattle.spec_model.specs.Check.{no_raw_links}
 use Rattle.table_record.proofs.Laws.{links-in}
 use Rattle.table_record.proofs.get_links.Statement.{statement}
 use Rattle.table_record.proofs.get_links.Tie as tie
@@ -25,7 +25,7 @@ element-copy-out-t14 : tie.Need-element-copy-out-t14
 element-copy-out-t14 c = search rules
 
 returns : tie.Need-returns
-returns c = sym (links-in c.before.before.before.args.l.now c.before.before.before.args.k noRawLinks c.before.before.before.requires)
+returns c = sym (links-in c.before.before.before.args.l.now c.before.before.before.args.k no_raw_links c.before.before.before.requires)
 
 pub get-links-spec : {M : Type 1} → statement M
 get-links-spec =

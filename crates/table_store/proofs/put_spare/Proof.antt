@@ -5,16 +5,16 @@ use Prim.Native.Nat.{ℕ, ◌+◌, ◌≤◌, ◌-◌}
 use native.Mathlib.Omega.{arith}
 use lib.ListN.{replicate, set}
 use lib.Seq.{sets}
-use Rattle.table_record.specs.Layout.{spareSize}
+use Rattle.table_record.specs.Layout.{spare_size}
 use Rattle.table_record.proofs.Lists.{run-next}
 use Rattle.table_store.proofs.put_spare.Statement.{statement}
 use Rattle.table_store.proofs.put_spare.Tie as tie
 
 abbrev invariant-loop : tie.invariant-loop
-invariant-loop b₀ at j₀ b j = (j ≤ spareSize) × (b ≡ sets b₀ at (replicate j 0))
+invariant-loop b₀ at j₀ b j = (j ≤ spare_size) × (b ≡ sets b₀ at (replicate j 0))
 
 abbrev decreases-loop : tie.decreases-loop
-decreases-loop b₀ at j₀ b j = spareSize - j
+decreases-loop b₀ at j₀ b j = spare_size - j
 
 loop-holds : tie.Need-loop-init invariant-loop decreases-loop
 loop-holds c = (omega arith, refl)
@@ -39,7 +39,7 @@ loop-again c = let l = c.before.loop in
 returns : tie.Need-returns invariant-loop decreases-loop
 returns c = let l = c.before.loop in
     let a = c.before.before.args in
-    let e : l.j ≡ spareSize = omega arith in
+    let e : l.j ≡ spare_size = omega arith in
     l.invariant.1 ∙ ap (λ (n : ℕ). sets a.b.now a.at (replicate n 0)) e
 
 pub put-spare-spec : {M : Type 1} → statement M

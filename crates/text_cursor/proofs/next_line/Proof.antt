@@ -73,12 +73,12 @@ module _ {M : Type 1} {𝓤 : Ura M} (𝓛 : Logic 𝓤) (at_mem : Memory → SP
     abbrev to : (SkipLine 𝓛 at_mem run).Ghost
     to = (((κ, (α ∷ [], tt)), (q, (full_share, tt)), tt, (s, (c, tt)), (sv ∷ [], (vptr l 0 ∷ [], tt))), tt)
 
-    asked : ent 𝓤 (⋆ 𝓛 ((‵ (flft κ q) ⊛ ‵ (flft (α ∷ []) full_share) ⊛ ‵ ftrue) ∷ ‵ ((ShrSlice (named 0) κ u8).own_val s (sv ∷ [])) ∷ ‵
-        ((MutRef (named 0) (α ∷ []) R).own_val c (vptr l 0 ∷ [])) ∷ [])) ((SkipLine 𝓛 at_mem run).pre to)
+    asked : ent 𝓤 (⋆ 𝓛 ((‵ (flft κ q) ⊛ ‵ (flft (α ∷ []) full_share) ⊛ ‵ ftrue) ∷ ‵ ((ShrSlice (named 0) κ u8).own s (sv ∷ [])) ∷ ‵
+        ((MutRef (named 0) (α ∷ []) R).own c (vptr l 0 ∷ [])) ∷ [])) ((SkipLine 𝓛 at_mem run).pre to)
     asked =
         qed 𝓛
-        ((‵ (flft κ q) ⊛ ‵ (flft (α ∷ []) full_share) ⊛ ‵ ftrue) ∷ ‵ ((ShrSlice (named 0) κ u8).own_val s (sv ∷ [])) ∷ ‵
-        ((MutRef (named 0) (α ∷ []) R).own_val c (vptr l 0 ∷ [])) ∷
+        ((‵ (flft κ q) ⊛ ‵ (flft (α ∷ []) full_share) ⊛ ‵ ftrue) ∷ ‵ ((ShrSlice (named 0) κ u8).own s (sv ∷ [])) ∷ ‵
+        ((MutRef (named 0) (α ∷ []) R).own c (vptr l 0 ∷ [])) ∷
         []) ∵ suffices ! _ (bare 𝓤 _) $ frame ! $
         nothing ! $ move ! (2 ∷ 0 ∷ []) $ fjoin ! $ move ! (1 ∷ 0 ∷ []) $ fjoin ! $ done !
 
@@ -92,14 +92,14 @@ module _ {M : Type 1} {𝓤 : Ura M} (𝓛 : Logic 𝓤) (at_mem : Memory → SP
         assigns ! (addr ! (from ! (stop !))) (from ! (stop !)) (init ! 0 refl (tt, tt)) $
         -- [_5; …; _4; …; _3; …; _2; …; _1; …; room for _0; …; the slice's token; what the parameters own]: _3 is lent
         move ! (13 ∷ []) $ fsplit ! $ lft_new ! tt (λ α. move ! (7 ∷ []) $
-        use1 𝓛 (later (some (λ (γ : GName). ‵ ((MutRef (named 0) (α ∷ []) R).own_val (c l₃ α γ) (vptr l₃ 0 ∷ [])) ⊛ ‵ (flent (α ∷ []) (Body (mem R) l₃ 0 γ)))))
+        use1 𝓛 (later (some (λ (γ : GName). ‵ ((MutRef (named 0) (α ∷ []) R).own (c l₃ α γ) (vptr l₃ 0 ∷ [])) ⊛ ‵ (flent (α ∷ []) (Body (mem R) l₃ 0 γ)))))
         (lends 𝓛 h l₃ (α ∷ []) (named 0) is-h) $ await ! tt $ pick ! (λ γ. split ! $
         -- [the reference; the lender's part; its token; what the slice owns; what c owned; _5; …; _4; …; what frees _3; _2; …; _1; …; room for _0; …; the slice's token]
         move ! (4 ∷ []) $ drop ! $ move ! (15 ∷ []) $ split ! $ move ! (4 ∷ 1 ∷ []) $ join ! $ move ! (1 ∷ 0 ∷ []) $ join ! $ move ! (0 ∷ 3 ∷ 1 ∷ []) $
         use3 𝓛 (raw ((SkipLine 𝓛 at_mem run).pre (to l₃ α γ))) (asked l₃ α γ) $
         calls_at ! fm (SkipLine 𝓛 at_mem run) known (to l₃ α γ) (and_then ! (load ! (from ! (stop !)) (look ! 9 refl))
         (and_then ! (load ! (from ! (stop !)) (look ! 2 refl)) (no_more !))) (λ u.
-        use1 𝓛 (later (some (λ (r : Unit {0}). ((‵ (flft κ q) ⊛ ‵ (flft (α ∷ []) full_share) ⊛ ‵ ftrue) ⊛ ‵ (unit.own_val r (u ∷ []))) ⊛ raw
+        use1 𝓛 (later (some (λ (r : Unit {0}). ((‵ (flft κ q) ⊛ ‵ (flft (α ∷ []) full_share) ⊛ ‵ ftrue) ⊛ ‵ (unit.own r (u ∷ []))) ⊛ raw
         (ensured 𝓛 callee.ended (callee.clauses 𝓛 at_mem run) (κ, (α ∷ [], tt)) (s, (c l₃ α γ, tt)) tt r)))) (id⊢ 𝓤 _) $
         await ! tt $ pick ! (λ r. split ! $ move ! (1 ∷ []) $
         use1 𝓛 (some (λ (zs : Unit {0} × (Cursor × Unit {0})). ‵ (lasts callee.ended (κ, (α ∷ [], tt)) (s, (c l₃ α γ, tt)) zs) ⊛ raw (fact 𝓤 (Told zs.1.0)))) (id⊢ 𝓤 _) $

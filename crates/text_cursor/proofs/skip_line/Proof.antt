@@ -82,9 +82,9 @@ module _ {M : Type 1} {𝓤 : Ura M} (𝓛 : Logic 𝓤) (at_mem : Memory → SP
   abbrev to : (Behind 𝓛 at_mem run).Ghost
   to = (((κ, tt), (q, tt), tt, (s, (n, tt)), (sv ∷ [], (vint w64 n ∷ [], tt))), tt)
 
-  asked : n < 2 ^ 64 → ent 𝓤 (sep 𝓤 (sep 𝓤 (A.lft κ q) (sem 𝓛 ftrue)) (sem 𝓛 ((ShrSlice (named 0) κ u8).own_val s (sv ∷ [])))) ((Behind 𝓛 at_mem run).pre to)
+  asked : n < 2 ^ 64 → ent 𝓤 (sep 𝓤 (sep 𝓤 (A.lft κ q) (sem 𝓛 ftrue)) (sem 𝓛 ((ShrSlice (named 0) κ u8).own s (sv ∷ [])))) ((Behind 𝓛 at_mem run).pre to)
   asked fits =
-      qed 𝓛 ((‵ (flft κ q) ⊛ ‵ ftrue) ∷ ‵ ((ShrSlice (named 0) κ u8).own_val s (sv ∷ [])) ∷ []) ∵ suffices ! _ (bare 𝓤 _) $ frame ! $
+      qed 𝓛 ((‵ (flft κ q) ⊛ ‵ ftrue) ∷ ‵ ((ShrSlice (named 0) κ u8).own s (sv ∷ [])) ∷ []) ∵ suffices ! _ (bare 𝓤 _) $ frame ! $
       nothing ! $ owned ! usize (Is usize) (uint_Makes 𝓛 w64) n _ (refl, fits) $ fjoin ! $ move ! (1 ∷ 0 ∷ []) $ fjoin ! $ done !
 
   said : (r : ℕ) → ent 𝓤 (ensured 𝓛 callee.ended (callee.clauses 𝓛 at_mem run) (κ, tt) (s, (n, tt)) tt r) (fact 𝓤 (Told r))
@@ -109,7 +109,7 @@ module _ {M : Type 1} {𝓤 : Ura M} (𝓛 : Logic 𝓤) (at_mem : Memory → SP
         -- [what the callee asks; the cursor's cell; what it owns; the open borrow; obs; auth; _4; …; _3; …; _2; …; _1; …; room for _0; …]
         calls_at ! fm (Behind 𝓛 at_mem run) known to (and_then ! (load ! (from ! (stop !)) (look ! 12 refl))
         (and_then ! (load ! (from ! (stop !)) (look ! 8 refl)) (no_more !))) (λ u.
-        use1 𝓛 (later (some (λ (r : ℕ). ((‵ (flft κ q) ⊛ ‵ ftrue) ⊛ ‵ (usize.own_val r (u ∷ []))) ⊛ raw
+        use1 𝓛 (later (some (λ (r : ℕ). ((‵ (flft κ q) ⊛ ‵ ftrue) ⊛ ‵ (usize.own r (u ∷ []))) ⊛ raw
         (ensured 𝓛 callee.ended (callee.clauses 𝓛 at_mem run) (κ, tt) (s, (n, tt)) tt r)))) (id⊢ 𝓤 _) $ await ! tt $ pick ! (λ r.
         split ! $ move ! (1 ∷ []) $ use1 𝓛 (raw (fact 𝓤 (Told r))) (said r) $ heard ! (Told r) (λ e. split ! $ move ! (1 ∷ []) $
         peeks ! usize (Is usize) (shows 𝓛 usize) r (u ∷ []) (λ is. land ! (from ! (stop !)) (init ! 7 refl ((uint_Lawful 𝓛 w64).typed r _ is).0) $

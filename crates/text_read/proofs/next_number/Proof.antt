@@ -1,6 +1,6 @@
 -- The cursor goes past a line of one number as the definition does: the one law of a line (`line_read`), since this kind too refuses an empty line (`number-empty`).
 use borrow.Author.Rules.{rules}
-use Rattle.spec_sheet.specs.Sheet.{numberLine}
+use Rattle.spec_sheet.specs.Sheet.{number_line}
 use Rattle.text_read.proofs.Laws.{number-empty, line_read, passed-at-most}
 use Rattle.text_read.proofs.next_number.Statement.{statement}
 use Rattle.text_read.proofs.next_number.Tie as tie
@@ -23,7 +23,7 @@ returns c =
     let l = c.before.before.between in
     let d = c.before.before.before.next-line in
     let a = c.before.before.before.before.before.before.args in (
-      line_read (numberLine a.key.now a.low a.high) (number-empty a.key.now a.low a.high) a.s.now a.c d.result d.ensures _ l.ensures (λ n. n)
+      line_read (number_line a.key.now a.low a.high) (number-empty a.key.now a.low a.high) a.s.now a.c d.result d.ensures _ l.ensures (λ n. n)
           v.result c.passed.result v.ensures.0 c.passed.ensures,
       passed-at-most a.high d.result v.result c.passed.result v.ensures.1 c.passed.ensures,
     )

@@ -6,14 +6,14 @@ use native.Mathlib.Omega.{arith}
 use lib.ListN.{length, drop}
 use borrow.Author.Rules.{rules}
 use Rattle.spec_sheet.specs.Numbers.{numbers}
-use Rattle.text_read.specs.View.{numbersOf, RestEmpty, maxNumbers}
+use Rattle.text_read.specs.View.{numbers_of, RestEmpty, max_numbers}
 use Rattle.text_read.proofs.Laws.{number-scan-wrong, number-scan-right, right-within, numbers-many, numbers-fail, numbers-end, numbers-other, numbers-comma}
 use Rattle.text_read.proofs.Laws.{none-scanned, none-empty, one-scanned, more_numbers, more-empty}
 use Rattle.text_read.proofs.numbers_at.Statement.{statement}
 use Rattle.text_read.proofs.numbers_at.Tie as tie
 
 abbrev invariant-loop : tie.invariant-loop
-invariant-loop l at max i₀ t₀ i t = (i ≤ length l) × (t.count ≤ max) × RestEmpty t × (numbers (max - t.count) (numbersOf t) (drop i l) ≡ numbers max [] (drop at l))
+invariant-loop l at max i₀ t₀ i t = (i ≤ length l) × (t.count ≤ max) × RestEmpty t × (numbers (max - t.count) (numbers_of t) (drop i l) ≡ numbers max [] (drop at l))
 
 abbrev decreases-loop : tie.decreases-loop
 decreases-loop l at max i₀ t₀ i t = max - t.count
@@ -30,7 +30,7 @@ loop-holds c =
       c.before.before.requires.0,
       omega arith,
       subst RestEmpty (sym n.ensures) (none-empty a.at),
-      ap (λ t. numbers (a.max - t.count) (numbersOf t) (drop a.at a.l.now)) n.ensures ∙ ap (λ z. numbers z [] (drop a.at a.l.now)) e,
+      ap (λ t. numbers (a.max - t.count) (numbers_of t) (drop a.at a.l.now)) n.ensures ∙ ap (λ z. numbers z [] (drop a.at a.l.now)) e,
     )
 
 number-at-requires : tie.Need-number-at-requires invariant-loop decreases-loop
@@ -54,7 +54,7 @@ returns c =
     let a = c9.args in
     let p = c6.loop in
     let w = c3.number_at in
-    none-scanned a.l.now a.max a.at c.no-numbers2.result c.no-numbers2.ensures c9.requires.0 _ (numbers-fail a.l.now (numbersOf p.t) a.max p.t.count p.i _ p.invariant.3
+    none-scanned a.l.now a.max a.at c.no-numbers2.result c.no-numbers2.ensures c9.requires.0 _ (numbers-fail a.l.now (numbers_of p.t) a.max p.t.count p.i _ p.invariant.3
     c4.if1.true (number-scan-wrong (λ n. n) a.l.now w.result _ w.ensures.0 c.before.enum_told.given.1))
 
 with-number-requires : tie.Need-with-number-requires invariant-loop decreases-loop
@@ -73,12 +73,12 @@ returns-2 c =
     let p = c8.loop in
     let w = c5.number_at in
     let r = c.before.with_number in
-    let few : p.t.count < maxNumbers = omega (arith, c6.if1.true, c11.requires.1) in
+    let few : p.t.count < max_numbers = omega (arith, c6.if1.true, c11.requires.1) in
     let m = more_numbers p.t r.result _ few r.ensures.0 r.ensures.1 in
     let v = right-within _ w.result _ _ c3.w.given.1 w.ensures.1 in
     one-scanned a.l.now a.max r.result p.t.count _ r.ensures.2 r.ensures.1 r.ensures.3 v.0 c6.if1.true
     (more-empty p.t r.result _ few r.ensures.0 r.ensures.1 p.invariant.2) _
-    (numbers-end a.l.now (numbersOf p.t) a.max p.t.count p.i _ p.invariant.3 c6.if1.true (numbersOf r.result) _ _ m
+    (numbers-end a.l.now (numbers_of p.t) a.max p.t.count p.i _ p.invariant.3 c6.if1.true (numbers_of r.result) _ _ m
     (number-scan-right (λ n. n) a.l.now w.result _ w.ensures.0 _ _ c3.w.given.1) c.if2.true)
 
 shared-slice-read-if3 : tie.Need-shared-slice-read-if3 invariant-loop decreases-loop
@@ -99,12 +99,12 @@ returns-3 c =
     let p = c10.loop in
     let w = c7.number_at in
     let r = c3.with_number in
-    let few : p.t.count < maxNumbers = omega (arith, c8.if1.true, c13.requires.1) in
+    let few : p.t.count < max_numbers = omega (arith, c8.if1.true, c13.requires.1) in
     let m = more_numbers p.t r.result _ few r.ensures.0 r.ensures.1 in
     let v = right-within _ w.result _ _ c5.w.given.1 w.ensures.1 in
     one-scanned a.l.now a.max r.result p.t.count _ r.ensures.2 r.ensures.1 r.ensures.3 v.0 c8.if1.true
     (more-empty p.t r.result _ few r.ensures.0 r.ensures.1 p.invariant.2) _
-    (numbers-other a.l.now (numbersOf p.t) a.max p.t.count p.i _ p.invariant.3 c8.if1.true (numbersOf r.result) _ _ m
+    (numbers-other a.l.now (numbers_of p.t) a.max p.t.count p.i _ p.invariant.3 c8.if1.true (numbers_of r.result) _ _ m
     (number-scan-right (λ n. n) a.l.now w.result _ w.ensures.0 _ _ c5.w.given.1) (omega (arith, v, c.before.before.if2.false)) c.if3.true)
 
 add-i : tie.Need-overflow-add-i invariant-loop decreases-loop
@@ -131,14 +131,14 @@ loop-again c =
     let p = c10.loop in
     let w = c7.number_at in
     let r = c3.with_number in
-    let few : p.t.count < maxNumbers = omega (arith, c8.if1.true, c13.requires.1) in
+    let few : p.t.count < max_numbers = omega (arith, c8.if1.true, c13.requires.1) in
     let m = more_numbers p.t r.result _ few r.ensures.0 r.ensures.1 in
     let v = right-within _ w.result _ _ c5.w.given.1 w.ensures.1 in (
       omega (arith, v, c.before.before.if2.false),
       omega (arith, r.ensures.1, c8.if1.true),
       more-empty p.t r.result _ few r.ensures.0 r.ensures.1 p.invariant.2,
-      ap (λ z. numbers (a.max - z) (numbersOf r.result) (drop (c5.w.given.0.1.0 + 1) a.l.now)) r.ensures.1
-          ∙ numbers-comma a.l.now (numbersOf p.t) a.max p.t.count p.i _ p.invariant.3 c8.if1.true (numbersOf r.result) _ _ m
+      ap (λ z. numbers (a.max - z) (numbers_of r.result) (drop (c5.w.given.0.1.0 + 1) a.l.now)) r.ensures.1
+          ∙ numbers-comma a.l.now (numbers_of p.t) a.max p.t.count p.i _ p.invariant.3 c8.if1.true (numbers_of r.result) _ _ m
           (number-scan-right (λ n. n) a.l.now w.result _ w.ensures.0 _ _ c5.w.given.1) (omega (arith, v, c.before.before.if2.false)) c.if3.false,
     )
 
@@ -152,7 +152,7 @@ returns-4 c =
     let a = c6.args in
     let p = c3.loop in
     none-scanned a.l.now a.max a.at c.no-numbers3.result c.no-numbers3.ensures c6.requires.0 _
-    (numbers-many a.l.now (numbersOf p.t) a.max p.t.count p.i _ p.invariant.3 c.before.if1.false)
+    (numbers-many a.l.now (numbers_of p.t) a.max p.t.count p.i _ p.invariant.3 c.before.if1.false)
 
 pub numbers-at-spec : {M : Type 1} → statement M
 numbers-at-spec =

@@ -1,6 +1,6 @@
 -- The key, and the decimal in the rest of the buffer (`fill-rest`).
 use Rattle.text_write.proofs.Laws.{fill-rest}
-use Rattle.spec_sheet.specs.Text.{numberText}
+use Rattle.spec_sheet.specs.Text.{number_text}
 use native.Mathlib.Omega.{arith}
 use borrow.Author.Rules.{rules}
 use Rattle.text_write.proofs.put_number.Statement.{statement}
@@ -31,7 +31,7 @@ same_length : tie.Need-same-length
 same_length c = search rules
 
 returns : tie.Need-returns
-unfolding numberText
+unfolding number_text
 returns c =
     let pre = c.before.before.before.before.before.before.before.before.before.before.before.requires in
     let put-bytes = c.before.before.before.before.before.before.before.put-bytes in

@@ -1,7 +1,7 @@
 -- The loop has written the texts of the first i tables, and one more goes into the rest of the buffer (`fill-rest`, `text-next`).
-use Rattle.tiny_output.proofs.Laws.{textTo, text-next, text-none, text-all}
-use Rattle.table_record.specs.Store.{typesSize}
-use Rattle.spec_tiny.specs.Tiny.{tinyCount}
+use Rattle.tiny_output.proofs.Laws.{text_to, text-next, text-none, text-all}
+use Rattle.table_record.specs.Store.{types_size}
+use Rattle.spec_tiny.specs.Tiny.{tiny_count}
 use Rattle.text_write.proofs.Laws.{fill_none, fill_is, fill-rest}
 use Rattle.text_write.specs.Fill.{Filled}
 use mathlib.Core.Path.{◌≡◌}
@@ -13,10 +13,10 @@ use Rattle.tiny_output.proofs.write_all.Statement.{statement}
 use Rattle.tiny_output.proofs.write_all.Tie as tie
 
 abbrev invariant-loop : tie.invariant-loop
-invariant-loop buf₀ types₀ links at₀ i₀ buf types at i = (i ≤ tinyCount) × (at ≤ 200 * i) × Filled buf₀ buf (textTo i) at × (length types ≡ typesSize)
+invariant-loop buf₀ types₀ links at₀ i₀ buf types at i = (i ≤ tiny_count) × (at ≤ 200 * i) × Filled buf₀ buf (text_to i) at × (length types ≡ types_size)
 
 abbrev decreases-loop : tie.decreases-loop
-decreases-loop buf₀ types₀ links at₀ i₀ buf types at i = tinyCount - i
+decreases-loop buf₀ types₀ links at₀ i₀ buf types at i = tiny_count - i
 
 loop-holds : tie.Need-loop-init invariant-loop decreases-loop
 loop-holds c = (omega arith, omega arith, fill_is text-none (fill_none c.before.args.buf.now), c.before.requires)

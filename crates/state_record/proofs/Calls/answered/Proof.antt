@@ -6,7 +6,7 @@ use native.Mathlib.Omega.{arith}
 use borrow.Author.Rules.{rules}
 use Rattle.state_record.proofs.Calls.answered.Statement.{statement}
 use Rattle.state_record.proofs.Calls.answered.Tie as tie
-use Rattle.spec_model.specs.Requests.{maxCalls}
+use Rattle.spec_model.specs.Requests.{max_calls}
 
 mul-old : tie.Need-overflow-mul-old
 mul-old c = search rules
@@ -22,7 +22,7 @@ element-set-from-c c = search rules
 
 returns : tie.Need-returns
 returns c =
-    let n : length c.before.args.self.list ≡ maxCalls = simp length-map at c.before.well-formed.0.1.1.0.1.0.1 in
+    let n : length c.before.args.self.list ≡ max_calls = simp length-map at c.before.well-formed.0.1.1.0.1.0.1 in
     (refl, calls-answered c.before.args.self c.before.args.j c.before.requires.0 (omega arith))
 
 pub answered-spec : {M : Type 1} → statement M

@@ -6,13 +6,13 @@ use Rattle.table_record.specs.declared.TypeRec.{TypeRec}
 use Rattle.table_record.specs.declared.Method.{Method}
 use Rattle.table_record.proofs.TypeRec.empty.Statement.{statement}
 use Rattle.table_record.proofs.TypeRec.empty.Tie as tie
-use Rattle.spec_model.specs.Table.{maxMethods}
+use Rattle.spec_model.specs.Table.{max_methods}
 
 empty-requires : tie.Need-empty-requires
 empty-requires c κs = search rules
 
 returns : tie.Need-returns
-returns c = ap (λ (m : Method). let r : TypeRec = record { head = record { rep = 0; cat = 0; own_val = 0; kind = 0; left = 0; right = 0 }; methods = replicate maxMethods m } in r) c.empty.ensures
+returns c = ap (λ (m : Method). let r : TypeRec = record { head = record { rep = 0; cat = 0; own = 0; kind = 0; left = 0; right = 0 }; methods = replicate max_methods m } in r) c.empty.ensures
 
 pub empty-spec : {M : Type 1} → statement M
 empty-spec = tie.close (tie.spec empty-requires returns)
