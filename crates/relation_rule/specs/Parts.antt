@@ -1,5 +1,5 @@
 -- The rule of a pair by its parts (Relations), as the code asks for them one after another.
-use Rattle.std.specs.Prelude.{Bool, true, false, ◌&&◌, ◌||◌, cond, List, [], ◌∷◌, ℕ, zero, suc, eqb, get_or}
+use Rattle.std.specs.Prelude.{Bool, true, false, ◌&&◌, ◌||◌, cond, List, [], ◌∷◌, ℕ, eqb, get_or}
 use Rattle.spec_model.specs.Basics.{◌⇒◌, any, from}
 use Rattle.spec_model.specs.Table.{Rep, Table}
 use Rattle.spec_model.specs.Relations.{Relation, subtype, conforms, strict, loose, free, same_rep, same_sort, cat_le}
@@ -51,8 +51,3 @@ broader_in l c = [] ∷ from c.cats 1 (broader_of l)
 -- Category a ≤ x by the links of x, from what is known of the categories below x.
 unfoldable pub cat_next : List (List ℕ) → List Bool → ℕ → ℕ → Bool
 cat_next links done a x = eqb a 0 || (eqb a x || any (λ k. get_or done k false) (get_or links x []))
-
--- a test of every number below m
-unfoldable pub each_below : ℕ → (ℕ → Bool) → Bool
-each_below zero f = true
-each_below (suc m) f = each_below m f && f m
