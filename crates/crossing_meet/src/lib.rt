@@ -16,7 +16,7 @@ use state_record::{Place, PlaceRec, Places, State};
 use table_record::{Counts, LINK_BYTES, TYPE_BYTES};
 
 // The crossing's result, where it is not refused (F5): the reference leads to a place that stands, or to a new adapter, whose record is to be the next place.
-#[derive(Drop)]
+#[derive(Clone, Copy)]
 pub enum Landing {
     Stands(usize),
     Adapter(PlaceRec),
@@ -24,7 +24,7 @@ pub enum Landing {
 
 // What came of it: `refusal` is its number, or 0. The static type of the reference and its place, the places with a new adapter among them, and how many
 // types there are now. The places stand beside the number, since no enum can hold an array.
-#[derive(Drop)]
+#[derive(Clone, Copy)]
 pub struct Crossed {
     pub refusal: usize,
     pub ty: usize,

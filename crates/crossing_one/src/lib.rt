@@ -14,7 +14,7 @@ use state_record::Places;
 use table_record::{Counts, LINK_BYTES, TYPE_BYTES};
 
 // What crosses: a reference of static type `from` to place `place`, which `receiver` is to have by type `to`.
-#[derive(Drop)]
+#[derive(Clone, Copy)]
 pub struct Crossing {
     pub from: usize,
     pub place: usize,

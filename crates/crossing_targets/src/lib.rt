@@ -16,7 +16,7 @@ use state_record::State;
 use table_record::{Counts, Head, Method, TYPE_BYTES};
 
 // The types whose signatures a value meets: that of the called cell, and then the layers of its place (C9).
-#[derive(Drop)]
+#[derive(Clone, Copy)]
 pub struct CallLayers {
     pub list: [u8; CallLayers::MAX],
     pub count: usize,
@@ -28,7 +28,7 @@ impl CallLayers {
 }
 
 // What a value is to be: an argument of the method, by its number, or the answer.
-#[derive(Drop)]
+#[derive(Clone, Copy)]
 pub enum Slot {
     Argument(usize),
     Answer,
@@ -36,7 +36,7 @@ pub enum Slot {
 
 // The type that each layer has for the value: 0 for none, else its number and 1. Types are taken at their word (H14), and a byte can be 255: so a code is no
 // byte.
-#[derive(Drop)]
+#[derive(Clone, Copy)]
 pub struct Targets {
     pub list: [usize; CallLayers::MAX],
     pub count: usize,

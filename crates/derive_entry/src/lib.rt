@@ -23,7 +23,7 @@ const CLOSED: usize = 2;
 
 // What a derivation comes to: the table is unfit (2), a number names no type or there is no such derived type (7), the table is full (11); or the derived type's
 // number and how many types there are now.
-#[derive(Drop)]
+#[derive(Clone, Copy)]
 pub enum Made {
     Unfit,
     Unknown,

@@ -16,14 +16,14 @@ use derive_type::Work;
 use table_record::{Counts, Key, TYPE_BYTES};
 
 // What a derivation comes to: the table is full, or the type's number and how many types there are now.
-#[derive(Drop)]
+#[derive(Clone, Copy)]
 pub enum Derived {
     Full,
     At(usize, usize),
 }
 
 // How a derivation begins: it is answered at once, or a new type is made.
-#[derive(Drop)]
+#[derive(Clone, Copy)]
 pub enum Begun {
     Settled(Derived),
     New,

@@ -17,7 +17,7 @@ pub const METHOD_SLOTS: usize = Method::SLOTS + 1;
 pub const SLOT_BYTES: usize = Counts::METHODS * METHOD_SLOTS;
 
 // What is derived for a slot of a new type: nothing, an argument or an answer, from these two types.
-#[derive(Drop)]
+#[derive(Clone, Copy)]
 pub enum Slot {
     Empty,
     Argument(usize, usize),

@@ -12,7 +12,7 @@ use derive_slots::{METHOD_SLOTS, SLOT_BYTES, state_of};
 use table_record::{Counts, Head, Key, Method, TypeRec, permits};
 
 // A new type at work: its key, and both sides as they were read. (Head and methods apart: a method of a struct within a struct is read by a copy of the whole.)
-#[derive(Drop)]
+#[derive(Clone, Copy)]
 pub struct Work {
     pub key: Key,
     pub lefthead: Head,

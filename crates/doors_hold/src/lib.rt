@@ -16,7 +16,7 @@ const LAST_TIME: u64 = 4294967295;
 const TOLERANCE: u64 = 60000;
 
 // What comes of it: the number of a refusal, or the counts of V6. specs/Result.antt says what it stands for.
-#[derive(Drop)]
+#[derive(Clone, Copy)]
 pub enum Held {
     Refused(usize),
     Counted {

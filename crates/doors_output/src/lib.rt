@@ -21,7 +21,7 @@ const INPUT_BYTES: usize = 32768;
 pub const PRINTED_BYTES: usize = 128;
 
 // What is printed: the first `length` bytes of `text`.
-#[derive(Drop)]
+#[derive(Clone, Copy)]
 pub struct Printed {
     pub length: usize,
     pub text: [u8; PRINTED_BYTES],

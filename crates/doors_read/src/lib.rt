@@ -11,21 +11,21 @@ use text_cursor::{Cursor, between, next_line};
 use text_read::{Got, LIMIT, Number};
 
 // A line of times as it was read: its form is wrong, or how many there are, stored or not.
-#[derive(Drop)]
+#[derive(Clone, Copy)]
 pub enum TimesLine {
     Wrong,
     Right(usize),
 }
 
 // The line of times at a cursor: its form is wrong, or how many there are, and the cursor behind it.
-#[derive(Drop)]
+#[derive(Clone, Copy)]
 pub enum Line {
     Wrong,
     Right(usize, Cursor),
 }
 
 // The whole input: its form is wrong, or the tolerance and how many marks and arrivals there are.
-#[derive(Drop)]
+#[derive(Clone, Copy)]
 pub enum Read {
     Wrong,
     Right {

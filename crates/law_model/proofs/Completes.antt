@@ -193,8 +193,8 @@ module _ (t₀ : Table) where
           inv = e.inv;
           grow = grown-trans g.grow e.grow;
           long = ap suc e.long;
-          is = λ m. elim m [ zero ↦ method-keys (grown-keys e.grow) d x y a.1 g.is | suc k ↦ e.is k ];
-          inside = λ m. elim m [ zero ↦ signature-below-more e.grow.more a.1 g.inside | suc k ↦ e.inside k ];
+          is = λ m. elim m as (λ i. DerivedMethod b.0 d (get_or (x ∷ xs) i no_method) (get_or (y ∷ ys) i no_method) (get_or (a.1 ∷ b.1) i no_method)) [ zero ↦ method-keys (grown-keys e.grow) d x y a.1 g.is | suc k ↦ e.is k ];
+          inside = λ m. elim m as (λ i. SignatureBelow (size b.0) (get_or (a.1 ∷ b.1) i no_method)) [ zero ↦ signature-below-more e.grow.more a.1 g.inside | suc k ↦ e.inside k ];
         }
 
 -- what is known without a new type

@@ -72,7 +72,7 @@ make-agree f g grows t same d l r =
     (λ _. Option (Table × ℕ)) [
       | some i ↦ some (t, i)
       | none ↦ elim
-          (ltb (size t) max_types) [ false ↦ none | true ↦ then m λ p. some (with_types p.0 (set p.0.types (size t) (entry t d l r p.1)), size t) ]
+          (ltb (size t) max_types) [ false ↦ none | true ↦ then {A = Table × List Method} m λ p. some (with_types p.0 (set p.0.types (size t) (entry t d l r p.1)), size t) ]
     ])
     (methods-agree (suc (size t)) f g grows same d (type_at t l).methods (type_at t r).methods _ (omega (arith, length-append t.types (pending t d l r ∷ []))))
 

@@ -18,7 +18,7 @@ use table_record::{Counts, LINK_BYTES, TYPE_BYTES};
 pub const PAIR_BYTES: usize = Counts::SHEET_TYPES * Counts::SHEET_TYPES;
 
 // The comparison of a pair of types (R14).
-#[derive(Drop)]
+#[derive(Clone, Copy)]
 pub struct Comparison {
     pub subtype: bool,
     pub strict: bool,
@@ -49,7 +49,7 @@ fn comparison_at(
 }
 
 // What Compare comes to (R14): 2 for a table that is not fit, 7 for a number that names no type, or the comparison.
-#[derive(Drop)]
+#[derive(Clone, Copy)]
 pub enum Compared {
     Unfit,
     Unknown,
@@ -137,7 +137,7 @@ pub fn pair_table(b: &[u8; TYPE_BYTES], l: &[u8; LINK_BYTES], c: Counts) -> [u8;
 }
 
 // The pair table of a table handed in, or 2: whether the table is fit, and the entries, all 0 where it is not.
-#[derive(Drop)]
+#[derive(Clone, Copy)]
 pub struct Pairs {
     pub fits: bool,
     pub entries: [u8; PAIR_BYTES],

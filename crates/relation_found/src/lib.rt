@@ -17,7 +17,7 @@ use table_record::{
 };
 
 // What a step of the search leads to: a pair that breaks its rule, or so many pairs that are found now.
-#[derive(Drop)]
+#[derive(Clone, Copy)]
 pub enum Step {
     Broken,
     Tail(usize),

@@ -11,7 +11,7 @@ use base_numbers::wide;
 use table_record::permits;
 
 // The four relations, and subtype with own not compared (R12), which a crossing asks for (X6).
-#[derive(Drop)]
+#[derive(Clone, Copy)]
 pub enum Relation {
     Subtype,
     Conforms,

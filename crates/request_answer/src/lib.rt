@@ -18,7 +18,7 @@ use state_record::{Call, Cell, State};
 use table_record::TYPE_BYTES;
 
 // What is handed over as the answer: a value, which is the number of a cell where a reference is due, or nothing.
-#[derive(Drop)]
+#[derive(Clone, Copy)]
 pub enum Given {
     Value(i64),
     Nothing,

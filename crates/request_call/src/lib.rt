@@ -146,7 +146,7 @@ fn call_through(
 
 // What a call comes to before anything is sent: the number of its refusal, or 0 and the call that it is, with its signature. Where `sends` is false no argument
 // is a reference: all have passed, and what is left is to add the call.
-#[derive(Drop)]
+#[derive(Clone, Copy)]
 pub struct Plan {
     pub refusal: usize,
     pub sends: bool,

@@ -15,7 +15,7 @@ use state_record::{Cell, Cells, Places, State};
 use table_record::{Counts, TYPE_BYTES};
 
 // What a request came to: the number of its refusal; two numbers (Q18, C19); the number answered; or nothing.
-#[derive(Drop)]
+#[derive(Clone, Copy)]
 pub enum Outcome {
     Refused(usize),
     Pair { first: usize, second: usize },
@@ -23,7 +23,7 @@ pub enum Outcome {
     Nothing,
 }
 
-#[derive(Drop)]
+#[derive(Clone, Copy)]
 pub struct Served {
     pub outcome: Outcome,
     pub state: State,

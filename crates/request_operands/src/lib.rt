@@ -21,7 +21,7 @@ const FIRST: usize = 3;
 // The most operands of a call that are looked at: of its arguments, one more than a signature may have.
 const OPERANDS: usize = FIRST + Counts::ARGUMENTS + 1;
 
-#[derive(Drop)]
+#[derive(Clone, Copy)]
 pub struct Operands {
     pub count: usize,
     pub items: [i64; OPERANDS],

@@ -21,7 +21,7 @@ use state_record::State;
 use table_record::TYPE_BYTES;
 
 // How a run ended: 2 or 0, how many requests were served, and the state.
-#[derive(Drop)]
+#[derive(Clone, Copy)]
 pub struct Ran {
     pub refusal: usize,
     pub served: usize,

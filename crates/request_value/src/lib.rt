@@ -103,7 +103,7 @@ fn send_argument(
 }
 
 // What the arguments come to before any is sent: the refusal of a number; all passed, and none is a reference; or a reference is met, and nothing is said.
-#[derive(Drop)]
+#[derive(Clone, Copy)]
 pub enum Numbers {
     Refused(usize),
     Passed,

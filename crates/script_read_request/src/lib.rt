@@ -10,7 +10,7 @@ ghost use Rattle.script_read_request.specs.Read.{integer_by, IntegerWithin, coun
 use text_read::Number;
 
 // A signed number scanned: the form is wrong, or the number and where the bytes behind it start.
-#[derive(Drop)]
+#[derive(Clone, Copy)]
 pub enum Integer {
     Wrong,
     Right(i64, usize),
@@ -23,7 +23,7 @@ const LISTED: usize = 4;
 pub const OPERANDS: usize = 3 + LISTED;
 
 // What a line asks: whether it asks something, the code of the request and its operands.
-#[derive(Drop)]
+#[derive(Clone, Copy)]
 pub struct Asked {
     pub right: bool,
     pub code: usize,

@@ -21,14 +21,14 @@ use text_read::Got;
 const NEWEST_FORM: usize = 1;
 
 // What the first four lines say.
-#[derive(Drop)]
+#[derive(Clone, Copy)]
 pub struct Front {
     pub subjects: usize,
     pub methods: usize,
     pub cats: usize,
 }
 
-#[derive(Drop)]
+#[derive(Clone, Copy)]
 pub enum First {
     Refused(usize, Cursor),
     At(Front, Cursor),
@@ -36,7 +36,7 @@ pub enum First {
 
 // What comes of a sheet that is read into lent bytes: 0, 0 and the counts of the table in them; or the number of a refusal and the byte offset of its line,
 // with counts and bytes of a table that holds nothing.
-#[derive(Drop)]
+#[derive(Clone, Copy)]
 pub struct ReadInto {
     pub refusal: usize,
     pub at: usize,
@@ -44,7 +44,7 @@ pub struct ReadInto {
 }
 
 // The reader's result: 0, 0 and the table; or the number of a refusal and the byte offset of its line, with a table that holds nothing.
-#[derive(Drop)]
+#[derive(Clone, Copy)]
 pub struct Sheet {
     pub refusal: usize,
     pub at: usize,

@@ -16,14 +16,14 @@ use text_cursor::{Cursor, between, next_line};
 use text_read::{Got, Numbers, Value};
 
 // An `under=` line: the number of a refusal, or the broader categories.
-#[derive(Drop)]
+#[derive(Clone, Copy)]
 pub enum Under {
     Refused(usize),
     Are(Links),
 }
 
 // The next line, an `under=` line: refused at the cursor that was handed in, or the broader categories and the cursor behind the line.
-#[derive(Drop)]
+#[derive(Clone, Copy)]
 pub enum UnderGot {
     Refused(usize),
     At(Links, Cursor),

@@ -18,21 +18,21 @@ use text_cursor::{Cursor, between, next_line};
 use text_read::{Number, Numbers};
 
 // How an `m=` line begins: with the state of a method that has a signature, which starts at an offset of the line, or otherwise.
-#[derive(Drop)]
+#[derive(Clone, Copy)]
 pub enum Opening {
     Other,
     Signed(u8, usize),
 }
 
 // An `m=` line: the number of a refusal, or 0 and the method. (A method holds an array, so these are no enums.)
-#[derive(Drop)]
+#[derive(Clone, Copy)]
 pub struct MethodLine {
     pub refusal: usize,
     pub m: Method,
 }
 
 // The next line, an `m=` line: the cursor stands behind it, or at a line that is refused.
-#[derive(Drop)]
+#[derive(Clone, Copy)]
 pub struct MethodGot {
     pub refusal: usize,
     pub m: Method,

@@ -16,14 +16,14 @@ use text_cursor::Cursor;
 use text_read::Got;
 
 // Several lines read: the number of a refusal and the cursor at its line, or the cursor behind the lines.
-#[derive(Drop)]
+#[derive(Clone, Copy)]
 pub enum Done {
     Refused(usize, Cursor),
     At(Cursor),
 }
 
 // The `m=` lines of a type: the number of a refusal, or 0. The cursor stands behind the lines, or at the line that is refused.
-#[derive(Drop)]
+#[derive(Clone, Copy)]
 pub struct MethodsGot {
     pub refusal: usize,
     pub list: [Method; Counts::METHODS],
@@ -31,7 +31,7 @@ pub struct MethodsGot {
 }
 
 // The lines of a type, in the same way.
-#[derive(Drop)]
+#[derive(Clone, Copy)]
 pub struct TypeGot {
     pub refusal: usize,
     pub t: TypeRec,

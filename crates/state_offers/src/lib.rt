@@ -14,7 +14,7 @@ use state_bytes::{CALL_BYTES, CELL_BYTES, PLACE_BYTES};
 use table_record::{Counts, LINK_BYTES, TYPE_BYTES};
 
 // What a cell of a state handed in says of a chain; `Unfit` is 2, for a state that does not pass the check.
-#[derive(Drop)]
+#[derive(Clone, Copy)]
 pub enum Offered {
     Unfit,
     Yes,

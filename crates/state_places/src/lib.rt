@@ -10,7 +10,7 @@ ghost use Rattle.state_places.specs.Behind.{BaseAt, LayersAt};
 use state_record::{Place, PlaceRec, Places, State};
 
 // The types that a value passes at a place (C9): the closed types of the adapters, outermost first, and the class last.
-#[derive(Drop)]
+#[derive(Clone, Copy)]
 pub struct Layers {
     pub list: [u8; State::PLACES],
     pub count: usize,

@@ -10,7 +10,7 @@ ghost use Rattle.state_record.specs.View.{no_cells, no_places, no_calls, state_l
 use table_record::{Counts, LINK_BYTES};
 
 // A cell: a reference as a subject holds it. Its holder, the sheet type by which it is held, and the place it leads to.
-#[derive(Drop)]
+#[derive(Clone, Copy)]
 pub struct Cell {
     pub holder: u8,
     pub ty: u8,
@@ -18,19 +18,19 @@ pub struct Cell {
 }
 
 // A place: an object, of a class and with an owner; or an adapter of a closed type in front of another place.
-#[derive(Drop)]
+#[derive(Clone, Copy)]
 pub enum Place {
     Object { class: u8, owner: u8 },
     Adapter { behind: u8, closed: u8 },
 }
 
-#[derive(Drop)]
+#[derive(Clone, Copy)]
 pub struct PlaceRec {
     pub place: Place,
 }
 
 // A call (Q5): by whom, through which cell, of which method; and its answered flag.
-#[derive(Drop)]
+#[derive(Clone, Copy)]
 pub struct Call {
     pub caller: u8,
     pub cell: u8,
@@ -38,25 +38,25 @@ pub struct Call {
     pub answered: bool,
 }
 
-#[derive(Drop)]
+#[derive(Clone, Copy)]
 pub struct Cells {
     pub list: [Cell; State::CELLS],
     pub count: usize,
 }
 
-#[derive(Drop)]
+#[derive(Clone, Copy)]
 pub struct Places {
     pub list: [PlaceRec; State::PLACES],
     pub count: usize,
 }
 
-#[derive(Drop)]
+#[derive(Clone, Copy)]
 pub struct Calls {
     pub list: [Call; State::CALLS],
     pub count: usize,
 }
 
-#[derive(Drop)]
+#[derive(Clone, Copy)]
 pub struct State {
     pub links: [u8; LINK_BYTES],
     pub counts: Counts,

@@ -14,7 +14,7 @@ pub const TYPE_BYTES: usize = Counts::TYPES * TypeRec::BYTES;
 pub const LINK_BYTES: usize = (Counts::CATEGORIES + 1) * Links::BYTES;
 
 // How many of each kind a table has. In a table handed in a count may be any number.
-#[derive(Drop)]
+#[derive(Clone, Copy)]
 pub struct Counts {
     pub subjects: usize,
     pub methods: usize,
@@ -67,7 +67,7 @@ impl Counts {
 }
 
 // A method of a type: the state's code, and the signature. `count` arguments are used; `answer` is 0 for none, else the type's number plus 1.
-#[derive(Drop)]
+#[derive(Clone, Copy)]
 pub struct Method {
     pub state: u8,
     pub count: u8,
@@ -112,7 +112,7 @@ impl Method {
 }
 
 // A type without its methods: codes of representation, category and own; of a derived type its kind, left and right, else 0.
-#[derive(Drop)]
+#[derive(Clone, Copy)]
 pub struct Head {
     pub rep: u8,
     pub cat: u8,
@@ -140,7 +140,7 @@ impl Head {
 }
 
 // A type.
-#[derive(Drop)]
+#[derive(Clone, Copy)]
 pub struct TypeRec {
     pub head: Head,
     pub methods: [Method; Counts::METHODS],
@@ -169,7 +169,7 @@ impl TypeRec {
 }
 
 // By which a derived type is known: its kind and the numbers of the two types that it is derived from.
-#[derive(Drop)]
+#[derive(Clone, Copy)]
 pub struct Key {
     pub kind: u8,
     pub left: usize,
@@ -186,7 +186,7 @@ impl Key {
 }
 
 // The broader categories of a category: how many, and their numbers.
-#[derive(Drop)]
+#[derive(Clone, Copy)]
 pub struct Links {
     pub count: u8,
     pub first: u8,

@@ -8,7 +8,7 @@ ghost use Rattle.text_cursor.specs.View.{Clear, LineEnd, LineAt, past};
 use base_numbers::least;
 
 // Where the next line begins: its byte offset.
-#[derive(Drop)]
+#[derive(Clone, Copy)]
 pub struct Cursor {
     pub at: usize,
 }

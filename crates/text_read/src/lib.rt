@@ -11,7 +11,7 @@ use base_numbers::{refusal, wide};
 use text_cursor::{Cursor, between, next_line};
 
 // A number scanned: the form is wrong, or the number and where the bytes behind it start.
-#[derive(Drop)]
+#[derive(Clone, Copy)]
 pub enum Number {
     Wrong,
     Right(usize, usize),
@@ -19,7 +19,7 @@ pub enum Number {
 
 // Up to four numbers with commas between, scanned: whether the form is right, how many, the numbers, and where the bytes behind them start. Those that are not
 // there are 0. They are no array: what is stored by an index and then read as a whole has to wait for its stores.
-#[derive(Drop)]
+#[derive(Clone, Copy)]
 pub struct Numbers {
     pub right: bool,
     pub count: usize,
@@ -31,14 +31,14 @@ pub struct Numbers {
 }
 
 // The result of one line: the number of a refusal, or the line's value.
-#[derive(Drop)]
+#[derive(Clone, Copy)]
 pub enum Value {
     Refused(usize),
     Is(usize),
 }
 
 // The next line of a text: the number of a refusal, which stands at the cursor that was handed in; or the line's value and the cursor behind it.
-#[derive(Drop)]
+#[derive(Clone, Copy)]
 pub enum Got {
     Refused(usize),
     At(usize, Cursor),

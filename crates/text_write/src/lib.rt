@@ -11,7 +11,7 @@ ghost use Rattle.text_write.specs.Written.{wrote_result, number_of, value_of};
 use base_numbers::least;
 
 // What comes of a text and a buffer: the number of a refusal, or the text's length. specs/Written.antt says what it stands for.
-#[derive(Drop)]
+#[derive(Clone, Copy)]
 pub enum Wrote {
     Refused(usize),
     Length(usize),

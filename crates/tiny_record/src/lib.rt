@@ -25,7 +25,7 @@ const TWO_OWN: usize = TWO + CHOICES * CHOICES;
 pub const SHEETS: usize = TWO_OWN + OWN_CHOICES * OWN_CHOICES;
 
 // A sheet by its choices: own, and what is said of the first method and of the second.
-#[derive(Drop)]
+#[derive(Clone, Copy)]
 struct Plan {
     own: u8,
     first: usize,
