@@ -1,5 +1,6 @@
 // Standard input and output as the programs use them (P20): a read that fails must not pass for the end of the input, and a write that fails is told. No
 // contract can say what is read or written; these say that what counts as read stands in the buffer.
+#![tactic(auto)]
 ghost use Rattle.std.specs.Prelude.{length};
 ghost use Rattle.base_streams.specs.Counted.{Counted, Came};
 

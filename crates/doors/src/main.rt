@@ -1,6 +1,7 @@
 // The program `doors`: marks held against the arrivals of a door counter, three lines from standard input, one line to standard output (P27 to P29).
 // What is printed for which bytes is proved of `doors_output::report`; 65,536 bytes are enough to see that an input is longer than 32,768 (P1).
 // Where input or output fails it says so on the error stream; of an input that could not be read to its end nothing is printed.
+#![tactic(auto)]
 use base_streams::Input;
 
 fn main() {

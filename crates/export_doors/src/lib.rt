@@ -1,4 +1,5 @@
 // The C function that holds marks against arrivals (V, E12).
+#![tactic(auto)]
 ghost use Rattle.spec_doors.specs.Held.{held};
 ghost use Rattle.export_doors.specs.Result.{HeldIs};
 

@@ -1,5 +1,6 @@
 // C functions on a state in flat bytes (B25 to B29, E11, E12) beside the single requests (crate export_requests): the state of a loaded sheet, offers, and a
 // run of requests, for any bytes and any numbers.
+#![tactic(auto)]
 ghost use Rattle.std.specs.Prelude.{◌≡◌};
 ghost use Rattle.spec_sheet.specs.Sheet.{read as read_sheet};
 ghost use Rattle.state_bytes.specs.Flat.{flat, raw_flat, cells_size, places_size, calls_size};

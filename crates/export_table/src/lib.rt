@@ -1,6 +1,7 @@
 // What tests, benchmarks and integrators link: C functions on numbers and arrays of bytes, for any numbers and any bytes (E2, E12). A table is three arrays:
 // the bytes of its types, those of its links, and five counts in the order of B12; docs/SPEC.md, section B, has the layout. The numbers returned are given by
 // definitions in specs/Codes.antt.
+#![tactic(auto)]
 ghost use Rattle.std.specs.Prelude.{◌≡◌, ◌+◌};
 ghost use Rattle.spec_model.specs.Check.{compare_handed};
 ghost use Rattle.table_record.specs.Store.{raw_table};

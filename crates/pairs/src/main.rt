@@ -1,6 +1,7 @@
 // The program `pairs`: a sheet from standard input, the four relations of every pair of its types to standard output (P16, P17).
 // What is printed for which bytes is proved of `pairs_output::report`; 65,536 bytes are enough to see that an input is longer than 32,768 (P1).
 // Where input or output fails it says so on the error stream; of an input that could not be read to its end nothing is printed.
+#![tactic(auto)]
 use base_streams::Input;
 
 fn main() {

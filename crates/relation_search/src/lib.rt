@@ -1,6 +1,7 @@
 // A relation at a pair of types (R3). The pair is related unless a pair that breaks its rule can be reached from it through signatures that both sides permit,
 // so pairs are found in a queue, each once (crate `relation_found`), and the rule of each is asked. So a relation at a pair takes time linear in the pairs that
 // can be reached, no heap, and never visits a pair twice.
+#![tactic(auto)]
 ghost use Rattle.std.specs.Prelude.{◌≡◌, ◌/◌, ◌%◌, ◌≤◌, ◌<◌, get_or};
 ghost use Rattle.spec_model.specs.Relations.{method_rule, rule, related};
 ghost use Rattle.spec_model.specs.Table.{max_methods, max_types};

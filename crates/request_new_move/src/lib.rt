@@ -1,6 +1,7 @@
 // New and move (N, M), on a state that is known to be sound. Their operands are tested in the order of the rules; then both go the same way: the reference
 // crosses, and what came of it becomes a cell. A refusal gives back the state that was handed in; of the types that are lent, those that were counted are as
 // they were (Q14).
+#![tactic(auto)]
 ghost use Rattle.std.specs.Prelude.{◌≡◌, ◌<◌};
 ghost use Rattle.spec_model.specs.Requests.{new_request, move_request};
 ghost use Rattle.spec_model.specs.Crossing.{max_places};

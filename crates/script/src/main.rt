@@ -1,6 +1,7 @@
 // The program `script`: a sheet and request lines from standard input, a line for each request to standard output.
 // What is printed for which bytes is proved of `script_output::script`. One byte more than the longest input is enough to see that an input is longer (P1).
 // Where input or output fails it says so on the error stream; of an input that could not be read to its end nothing is printed.
+#![tactic(auto)]
 use base_streams::Input;
 use script_output::{INPUT_BYTES, PRINTED_BYTES};
 use text_write::Wrote;

@@ -1,6 +1,7 @@
 // The program `script`: a sheet and request lines in, a line for each request out (P1 to P15). `script` takes any bytes and says what is printed
 // (specs/Output.antt).
 // Each line is written behind the one before it, in one lent buffer (F2).
+#![tactic(auto)]
 ghost use Rattle.std.specs.Prelude.{◌≡◌, cond, List, [], ◌∷◌, ◌+◌, ◌≤◌, ◌<◌, length};
 ghost use Rattle.std.proofs.Math.Option.{Option};
 ghost use Rattle.spec_model.specs.Requests.{Request};

@@ -1,6 +1,7 @@
 // The `m=` lines of a sheet (docs/SPEC.md S26). The tests for 1 come first, then those for 2, over the whole line (S5). A function `read_..` reads the bytes of
 // one line, `next_method` the next line of the text. `is` says what is read, `exact` that the record is the one that stands for it: a state by its own code,
 // unused slots 0 (B13). The other lines are read by crate `sheet_read_line`.
+#![tactic(auto)]
 ghost use Rattle.std.specs.Prelude.{◌≡◌, true, false, ◌≤◌, ◌<◌, length, drop};
 ghost use Rattle.spec_model.specs.Basics.{refuse, ok};
 ghost use Rattle.spec_model.specs.Table.{bare, permit, max_sheet_types};

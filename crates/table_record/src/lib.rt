@@ -1,6 +1,8 @@
 // The table (T) as it is stored: flat bytes for the types, flat bytes for the broader links of the categories, and the counts. Records are read here and stored
 // by crate `table_store`: these two alone know where in the bytes a record stands. Contracts speak of the list of records that the bytes hold
 // (specs/Layout.antt).
+#![tactic(auto)]
+
 ghost use Rattle.std.specs.Prelude.{◌≡◌, suc, ◌+◌, ◌*◌, ◌≤◌, ◌<◌, length, get_or};
 ghost use Rattle.spec_model.specs.Table.{permit, max_methods, max_categories, max_types};
 ghost use Rattle.spec_model.specs.Records.{argument_slots};

@@ -1,5 +1,6 @@
 // The program `tiny`: every tiny sheet to standard output (P21). What is printed is proved of `tiny_output::tiny`. A write that fails is said on the error
 // stream.
+#![tactic(auto)]
 use text_write::Wrote;
 use tiny_output::PRINTED_BYTES;
 
