@@ -6,12 +6,11 @@ use native.Mathlib.Omega.{arith}
 use lib.ListN.{length, take, drop, length-drop}
 use lib.Seq.{length-take-le}
 use borrow.Rule.Slice.PartMut.{mid_of}
-use Rattle.io.specs.Counts.{IsPrefixLen}
 use Rattle.base_streams.specs.declared.Input.{Input}
 use Rattle.base_streams.specs.declared.Input.TheVariants as input
 use Rattle.base_streams.specs.declared.Got.{Got}
 use Rattle.base_streams.specs.declared.Got.TheVariants as got
-use Rattle.base_streams.specs.Counted.{Counted, Came}
+use Rattle.base_streams.specs.Counted.{Counted, Came, IsPrefixLen}
 
 pub came-within : (g : Got) (k a : ℕ) (xs : List ℕ) → g ≡ got.Bytes k → Came g (length (mid_of a (length xs - a) xs)) → a ≤ length xs
     → (0 < k) × (a + k ≤ length xs)

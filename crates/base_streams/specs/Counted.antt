@@ -1,10 +1,13 @@
 -- What is counted stands in the buffer.
-use Rattle.std.specs.Prelude.{ℕ, ◌≤◌, ◌<◌, List}
-use Rattle.io.specs.Counts.{IsPrefixLen}
+use Rattle.std.specs.Prelude.{ℕ, ◌≡◌, ◌≤◌, ◌<◌, List, length, take}
 use Rattle.base_streams.specs.declared.Input.{Input}
 use Rattle.base_streams.specs.declared.Input.TheVariants as input
 use Rattle.base_streams.specs.declared.Got.{Got}
 use Rattle.base_streams.specs.declared.Got.TheVariants as got
+
+-- the first n of these bytes are in bounds, and n of them (the kit's `io` has the same words for what a read gives)
+abbrev pub IsPrefixLen : ℕ → List ℕ → Type 0
+IsPrefixLen n xs = (n ≤ length xs) × (n ≡ length (take n xs))
 
 abbrev pub Counted : Input → List ℕ → Type 0
 Counted (input.Bytes n) xs = IsPrefixLen n xs

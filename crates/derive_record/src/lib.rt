@@ -3,6 +3,7 @@
 // sides are read before anything is derived, and nothing below the count is ever written (B22). What the results mean is in specs/Begins.antt, the order in
 // which signatures are derived in crate `derive_slots`, the record itself in `derive_type`.
 #![tactic(auto)]
+
 ghost use Rattle.std.specs.Prelude.{◌≡◌, true, ◌≤◌, ◌<◌, length};
 ghost use Rattle.spec_model.specs.Restriction.{find, without_new, main_side};
 ghost use Rattle.spec_model.specs.Check.{kind_of};

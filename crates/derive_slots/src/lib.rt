@@ -1,6 +1,7 @@
 // Derivation (D): whether a type has a key, and what a new type gets from its two sides: the state of each method, and its signature slot by slot. What is
 // derived for a slot is said here, not derived; crate `derive_sub_sup` does that. Five slots to a method, four arguments and the answer (D17).
 #![tactic(auto)]
+
 ghost use Rattle.std.specs.Prelude.{◌≡◌, ◌<◌, take};
 ghost use Rattle.spec_model.specs.Restriction.{restricted, same_kind, is_key};
 ghost use Rattle.spec_model.specs.Check.{state_of, kind_of, answer_of, method_of};

@@ -1,6 +1,7 @@
 // Derivation (D): the record of a new type, from its two sides as they were read and the bytes of its slots: as it stands until its signatures are derived,
 // and finished. What is derived for a slot, and the state of a method, are said in crate `derive_slots`.
 #![tactic(auto)]
+
 ghost use Rattle.std.specs.Prelude.{◌≡◌, cond, ◌≤◌, ◌<◌, min, ltb};
 ghost use Rattle.spec_model.specs.Check.{kind_of, method_of};
 ghost use Rattle.spec_model.specs.Table.{max_methods};

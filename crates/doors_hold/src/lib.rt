@@ -1,5 +1,6 @@
 // Marks held against arrivals (V): one pass over each list for what may be handed in, and one over both for the pairs (V8).
 #![tactic(auto)]
+
 ghost use Rattle.std.specs.Prelude.{◌≡◌, true, ◌≤◌};
 ghost use Rattle.spec_doors.specs.Times.{max_tolerance, rising, times_fit};
 ghost use Rattle.spec_doors.specs.Held.{pairs_of, held};

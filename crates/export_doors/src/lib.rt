@@ -1,13 +1,13 @@
 // The C function that holds marks against arrivals (V, E12).
 #![tactic(auto)]
+
 ghost use Rattle.spec_doors.specs.Held.{held};
 ghost use Rattle.export_doors.specs.Result.{HeldIs};
 
 use doors_hold::Held;
 
 // Pairs, unpaired marks and unpaired arrivals into `counts`, and 0; or 22, and `counts` stays as it was.
-#[unsafe(no_mangle)]
-pub extern "C" fn pilgonca_doors(
+pub fn pilgonca_doors(
     marks: &[u64],
     arrivals: &[u64],
     within: u64,

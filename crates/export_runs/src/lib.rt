@@ -1,6 +1,7 @@
 // C functions on a state in flat bytes (B25 to B29, E11, E12) beside the single requests (crate export_requests): the state of a loaded sheet, offers, and a
 // run of requests, for any bytes and any numbers.
 #![tactic(auto)]
+
 ghost use Rattle.std.specs.Prelude.{◌≡◌};
 ghost use Rattle.spec_sheet.specs.Sheet.{read as read_sheet};
 ghost use Rattle.state_bytes.specs.Flat.{flat, raw_flat, cells_size, places_size, calls_size};
@@ -24,8 +25,7 @@ fn clear(cells: &mut [u8; CELL_BYTES], places: &mut [u8; PLACE_BYTES], calls: &m
 }
 
 // Sheet read (S) of any bytes, and the state of a loaded sheet (Q10): as `pilgonca_read`, with no cells, places or calls and every byte of theirs 0.
-#[unsafe(no_mangle)]
-pub extern "C" fn pilgonca_load(
+pub fn pilgonca_load(
     text: &[u8],
     types: &mut [u8; TYPE_BYTES],
     links: &mut [u8; LINK_BYTES],
@@ -69,8 +69,7 @@ fn offered_code(o: Offered, offered: &mut usize) -> usize
 }
 
 // Offers (E11): 0 and whether the cell offers the chain, or 2 and `offered` as it was.
-#[unsafe(no_mangle)]
-pub extern "C" fn pilgonca_offers(
+pub fn pilgonca_offers(
     types: &[u8; TYPE_BYTES],
     links: &[u8; LINK_BYTES],
     cells: &[u8; CELL_BYTES],
@@ -93,8 +92,7 @@ pub extern "C" fn pilgonca_offers(
 }
 
 // A run (U): 0, with the outcomes, how many requests were served and the state that they leave; or 2, and nothing is changed.
-#[unsafe(no_mangle)]
-pub extern "C" fn pilgonca_run(
+pub fn pilgonca_run(
     types: &mut [u8; TYPE_BYTES],
     links: &[u8; LINK_BYTES],
     cells: &mut [u8; CELL_BYTES],

@@ -1,6 +1,7 @@
 // The comparison of a pair of types, each relation by a search of its own; Compare at two numbers that are handed in, and the pair table of a sheet: the same
 // comparison for every pair of its types.
 #![tactic(auto)]
+
 ghost use Rattle.std.specs.Prelude.{◌≡◌, ◌+◌, ◌*◌, ◌≤◌};
 ghost use Rattle.spec_model.specs.Relations.{compare};
 ghost use Rattle.spec_model.specs.Check.{compare_handed};

@@ -1,6 +1,7 @@
 // What a search for a relation at a pair of types (R3, crate `relation_search`) has found, and what it finds through one method of a pair. Pairs are found in a
 // queue, each once. One array has the queue and says which pairs are found (specs/Found.antt), so that one that is met again takes a test and no place.
 #![tactic(auto)]
+
 ghost use Rattle.std.specs.Prelude.{◌≡◌, List, ℕ, ◌+◌, ◌≤◌, ◌<◌, leb, length, take};
 ghost use Rattle.spec_model.specs.Relations.{args_rule, answer_rule, method_rule};
 ghost use Rattle.spec_model.specs.Check.{answer_of};

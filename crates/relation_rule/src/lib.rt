@@ -1,6 +1,7 @@
 // What a relation asks of a pair of types (T, S) without their methods (R8 to R13): representation, category, own. The states of a method are compared in
 // crate `relation_states`; the pairs that signatures lead to are found in crate `relation_found`.
 #![tactic(auto)]
+
 ghost use Rattle.std.specs.Prelude.{◌≡◌, List, ℕ, suc, ◌<◌};
 ghost use Rattle.spec_model.specs.Basics.{◌⇒◌};
 ghost use Rattle.spec_model.specs.Table.{max_categories};

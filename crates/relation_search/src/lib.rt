@@ -2,6 +2,7 @@
 // so pairs are found in a queue, each once (crate `relation_found`), and the rule of each is asked. So a relation at a pair takes time linear in the pairs that
 // can be reached, no heap, and never visits a pair twice.
 #![tactic(auto)]
+
 ghost use Rattle.std.specs.Prelude.{◌≡◌, ◌/◌, ◌%◌, ◌≤◌, ◌<◌, get_or};
 ghost use Rattle.spec_model.specs.Relations.{method_rule, rule, related};
 ghost use Rattle.spec_model.specs.Table.{max_methods, max_types};

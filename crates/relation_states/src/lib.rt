@@ -1,6 +1,7 @@
 // What a relation asks of the states of a method in two types (R8 to R11): a square of yes and no for each relation, read at the two states; and whether both
 // sides permit the method (R7). The rule of the two types besides their methods is in crate `relation_rule`.
 #![tactic(auto)]
+
 ghost use Rattle.std.specs.Prelude.{◌≡◌, false, ◌&&◌, [], ◌<◌, get_or};
 ghost use Rattle.spec_model.specs.Table.{permit};
 ghost use Rattle.spec_model.specs.Relations.{state_rule};

@@ -1,5 +1,6 @@
 // The codes of the requests and their operands (U3 to U5), as the C functions of single requests list them.
 #![tactic(auto)]
+
 ghost use Rattle.std.specs.Prelude.{◌≡◌, true};
 ghost use Rattle.request_operands.specs.Operands.{answer_operands, call_operands, Listed};
 

@@ -1,5 +1,6 @@
 // A line behind the sheet as a request (docs/SPEC.md P4 to P11). Contracts say what is read in the words of specs/Asked.antt.
 #![tactic(auto)]
+
 ghost use Rattle.std.specs.Prelude.{◌≡◌, ◌&&◌, List, ℕ, ◌-◌, ◌≤◌, ◌<◌, ℤ, pos, negsuc, length, drop};
 ghost use Rattle.std.proofs.Math.Option.{none};
 ghost use Rattle.spec_sheet.specs.Lines.{same};

@@ -2,6 +2,7 @@
 // then those for 3, over the whole line (S5). A function `read_..` reads the bytes of one line, a function `next_..` the next line of the text. `is` says what
 // is read, `exact` that the record is the one that stands for it: an unused slot 0 (B13).
 #![tactic(auto)]
+
 ghost use Rattle.std.specs.Prelude.{◌≡◌, ◌≤◌, ◌<◌, get_or, drop};
 ghost use Rattle.spec_model.specs.Basics.{all};
 ghost use Rattle.spec_model.specs.Table.{max_categories};

@@ -19,14 +19,14 @@ use Rattle.spec_sheet.specs.Numbers.{Scan, fail, took, bind_scan, whole, number,
 use Rattle.spec_sheet.specs.Text.{state_text}
 use Rattle.spec_sheet.specs.Sheet.{closing, arguments, answer, below, signature, method_line}
 use Rattle.text_read.specs.declared.Numbers.{Numbers}
-use Rattle.text_read.specs.View.{scanned, result, items_of, numbers_of, RestEmpty, no_numbers, max_numbers}
+use Rattle.text_read.specs.View.{scanned, result_by, items_of, numbers_of, RestEmpty, no_numbers, max_numbers}
 use Rattle.text_read.proofs.Laws.{from-here, at-end, none-empty}
 use Rattle.sheet_read_method.specs.View.{ArgsWithin, bare_line, Opens}
 use Rattle.sheet_read_method.specs.declared.Opening.{Opening}
 use Rattle.sheet_read_method.specs.declared.Opening.TheVariants.{Other, Signed}
 
 -- a refusal's number isn't 0
-pub result-refused : {A : Type 0} (nr : ℕ) (x : A) → 0 < nr → result nr x ≡ refuse nr
+pub result-refused : {A : Type 0} (nr : ℕ) (x : A) → 0 < nr → result_by nr x ≡ refuse nr
 result-refused nr x h = ap (λ z. cond z (ok x) (refuse nr)) (ne_eqb nr 0 (λ e. omega arith))
 
 -- an empty line is refused

@@ -2,6 +2,7 @@
 // one line, `next_method` the next line of the text. `is` says what is read, `exact` that the record is the one that stands for it: a state by its own code,
 // unused slots 0 (B13). The other lines are read by crate `sheet_read_line`.
 #![tactic(auto)]
+
 ghost use Rattle.std.specs.Prelude.{◌≡◌, true, false, ◌≤◌, ◌<◌, length, drop};
 ghost use Rattle.spec_model.specs.Basics.{refuse, ok};
 ghost use Rattle.spec_model.specs.Table.{bare, permit, max_sheet_types};
@@ -9,7 +10,7 @@ ghost use Rattle.spec_model.specs.Check.{state_of, answer_of, method_of};
 ghost use Rattle.table_record.specs.Store.{raw_method, MethodExact};
 ghost use Rattle.spec_sheet.specs.Lines.{split, line};
 ghost use Rattle.spec_sheet.specs.Sheet.{arguments, answer, signature, method_line};
-ghost use Rattle.text_read.specs.View.{scanned, scan_by, result, reading, numbers_of};
+ghost use Rattle.text_read.specs.View.{scanned, scan_by, result_by, reading, numbers_of};
 ghost use Rattle.sheet_read_method.specs.View.{ArgsWithin, bare_line, Opens};
 
 use base_numbers::{narrow, refusal};
@@ -43,8 +44,8 @@ pub struct MethodGot {
 // The arguments of a signature, to the bracket that closes them (S26). One too many is a fault of form (S11).
 fn args_at(l: &[u8], at: usize) -> Numbers
     requires { at ≤ length l.now }
-    ensures* is { λ r. ⌜ scanned l.now r.right (numbers_of r) r.next ≡ arguments (drop at l.now) ⌝ }
-    ensures* within { λ r. ⌜ ArgsWithin (length l.now) r ⌝ }
+    ensures is { scanned l.now result.right (numbers_of result) result.next ≡ arguments (drop at l.now) }
+    ensures within { ArgsWithin (length l.now) result }
 {
     if at == l.len() {
         return text_read::no_numbers(at);
@@ -72,7 +73,7 @@ fn args_at(l: &[u8], at: usize) -> Numbers
 // The answer of a signature: 0 for `-`, else the number plus 1 (B10).
 fn answer_at(l: &[u8], at: usize) -> Number
     requires { at ≤ length l.now }
-    ensures* { λ r. ⌜ scan_by answer_of l.now r ≡ answer (drop at l.now) ⌝ }
+    ensures { scan_by answer_of l.now result ≡ answer (drop at l.now) }
 {
     if at == l.len() {
         return Number::Wrong;
@@ -89,8 +90,8 @@ fn answer_at(l: &[u8], at: usize) -> Number
 
 fn no_method(refusal: usize) -> MethodLine
     requires { 0 < refusal }
-    ensures* is { λ r. ⌜ result r.refusal (method_of (raw_method r.m)) ≡ refuse refusal ⌝ }
-    ensures* exact { λ r. ⌜ MethodExact (raw_method r.m) ⌝ }
+    ensures is { result_by result.refusal (method_of (raw_method result.m)) ≡ refuse refusal }
+    ensures exact { MethodExact (raw_method result.m) }
 {
     let m = Method::empty();
     MethodLine { refusal, m }
@@ -99,8 +100,8 @@ fn no_method(refusal: usize) -> MethodLine
 // A method without a signature.
 fn read_unsigned(state: u8) -> MethodLine
     requires { (permit (state_of state) ≡ false) × (state < 4) }
-    ensures* is { λ r. ⌜ result r.refusal (method_of (raw_method r.m)) ≡ ok (bare (state_of state)) ⌝ }
-    ensures* exact { λ r. ⌜ MethodExact (raw_method r.m) ⌝ }
+    ensures is { result_by result.refusal (method_of (raw_method result.m)) ≡ ok (bare (state_of state)) }
+    ensures exact { MethodExact (raw_method result.m) }
 {
     let m = Method {
         state,
@@ -114,8 +115,8 @@ fn read_unsigned(state: u8) -> MethodLine
 // A signature, from `at` on, of a sheet with n types (S26): a number that isn't below n is 2 (S29).
 fn read_signature(l: &[u8], at: usize, state: u8, n: usize) -> MethodLine
     requires { (at ≤ length l.now) × (n ≤ max_sheet_types) × (permit (state_of state) ≡ true) }
-    ensures* is { λ r. ⌜ result r.refusal (method_of (raw_method r.m)) ≡ signature n (state_of state) (drop at l.now) ⌝ }
-    ensures* exact { λ r. ⌜ MethodExact (raw_method r.m) ⌝ }
+    ensures is { result_by result.refusal (method_of (raw_method result.m)) ≡ signature n (state_of state) (drop at l.now) }
+    ensures exact { MethodExact (raw_method result.m) }
 {
     let t = args_at(l, at);
     if !t.right {
@@ -150,7 +151,7 @@ fn read_signature(l: &[u8], at: usize, state: u8, n: usize) -> MethodLine
 
 // How an `m=` line begins: behind `avail(` and `optional(` a signature starts.
 fn opened(l: &[u8]) -> Opening
-    ensures* { λ r. ⌜ Opens l.now r ⌝ }
+    ensures { Opens l.now result }
 {
     if text_read::begins(l, b"m=avail(") {
         return Opening::Signed(Method::AVAIL, 8);
@@ -163,8 +164,8 @@ fn opened(l: &[u8]) -> Opening
 
 // An `m=` line without a signature.
 fn read_bare(l: &[u8]) -> MethodLine
-    ensures* is { λ r. ⌜ result r.refusal (method_of (raw_method r.m)) ≡ bare_line l.now ⌝ }
-    ensures* exact { λ r. ⌜ MethodExact (raw_method r.m) ⌝ }
+    ensures is { result_by result.refusal (method_of (raw_method result.m)) ≡ bare_line l.now }
+    ensures exact { MethodExact (raw_method result.m) }
 {
     if text_read::is_word(l, b"m=denied") {
         return read_unsigned(Method::DENIED);
@@ -178,8 +179,8 @@ fn read_bare(l: &[u8]) -> MethodLine
 // An `m=` line of a sheet with n types (S26).
 fn read_method(l: &[u8], n: usize) -> MethodLine
     requires { n ≤ max_sheet_types }
-    ensures* is { λ r. ⌜ result r.refusal (method_of (raw_method r.m)) ≡ method_line n l.now ⌝ }
-    ensures* exact { λ r. ⌜ MethodExact (raw_method r.m) ⌝ }
+    ensures is { result_by result.refusal (method_of (raw_method result.m)) ≡ method_line n l.now }
+    ensures exact { MethodExact (raw_method result.m) }
 {
     let o = opened(l);
     match o {
@@ -190,9 +191,9 @@ fn read_method(l: &[u8], n: usize) -> MethodLine
 
 pub fn next_method(s: &[u8], c: Cursor, n: usize) -> MethodGot
     requires { n ≤ max_sheet_types }
-    ensures* is { λ r. ⌜ reading s.now r.refusal (method_of (raw_method r.m)) r.next.at
-        ≡ line (method_line n) c.at (split (drop c.at s.now)) ⌝ }
-    ensures* exact { λ r. ⌜ MethodExact (raw_method r.m) ⌝ }
+    ensures is { reading s.now result.refusal (method_of (raw_method result.m)) result.next.at
+        ≡ line (method_line n) c.at (split (drop c.at s.now)) }
+    ensures exact { MethodExact (raw_method result.m) }
 {
     let d = next_line(s, c);
     let l = between(s, c, d);

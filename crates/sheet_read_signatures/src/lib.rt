@@ -1,5 +1,6 @@
 // Whether every type that stands in a signature may stand there (T14), over the bytes of the types: the last test of a sheet (S13).
 #![tactic(auto)]
+
 ghost use Rattle.std.specs.Prelude.{◌≡◌, ◌≤◌, ◌<◌, get_or, take};
 ghost use Rattle.spec_model.specs.Basics.{all};
 ghost use Rattle.spec_model.specs.Check.{no_raw_type, method_of};

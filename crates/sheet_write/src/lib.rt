@@ -1,6 +1,7 @@
 // Sheet write (W) on any table and buffer. The same writer (crate `sheet_write_table`) counts first, on an empty part of the buffer, so that a short buffer
 // stays as it is.
 #![tactic(auto)]
+
 ghost use Rattle.std.specs.Prelude.{◌≡◌, true};
 ghost use Rattle.spec_model.specs.Check.{table_accepted};
 ghost use Rattle.table_record.specs.Store.{raw_table};

@@ -1,6 +1,7 @@
 // Each kind of line of a sheet (S24 to S26) that is more than a key and a number, written in front of a lent buffer. Inside a line too the rest of
 // the buffer, from the end of what is written, is lent on to the next writer. Every code has a line, so that nothing is asked of the bytes.
 #![tactic(auto)]
+
 ghost use Rattle.std.specs.Prelude.{[], ◌∷◌, ◌≤◌, eqb, length, take};
 ghost use Rattle.spec_model.specs.Check.{rep_of, answer_of, method_of, links_of};
 ghost use Rattle.table_record.specs.Store.{raw_method, raw_links};

@@ -1,6 +1,7 @@
 // The text of a table's sheet (W) into a lent buffer, part by part. Each writer is lent what the ones before it left free of the buffer (F2).
 // Writers are total (crate `text_write`): they say how long their text is, also where it does not fit.
 #![tactic(auto)]
+
 ghost use Rattle.std.specs.Prelude.{[], ◌∷◌, ◌≤◌, ◌<◌, eqb};
 ghost use Rattle.spec_model.specs.Check.{rep_of, table_of};
 ghost use Rattle.spec_model.specs.Table.{max_methods, max_categories, max_types};

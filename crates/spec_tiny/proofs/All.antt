@@ -26,6 +26,7 @@ pub data Among {A : Type 0} (x : A) : List A → Type 0 where
   there : {y : A} {ys : List A} → Among x ys → Among x (y ∷ ys)
 
 among-left : {A : Type 0} {x : A} (xs ys : List A) → Among x xs → Among x (xs ++ ys)
+among-left [] ys h = elim h [ ]
 among-left (z ∷ xs) ys (here e) = here e
 among-left (z ∷ xs) ys (there h) = there (among-left xs ys h)
 
@@ -34,15 +35,18 @@ among-right [] ys h = h
 among-right (z ∷ xs) ys h = there (among-right xs ys h)
 
 among-map : {A B : Type 0} (f : A → B) {x : A} (xs : List A) → Among x xs → Among (f x) (map f xs)
+among-map f [] h = elim h [ ]
 among-map f (z ∷ xs) (here e) = here (ap f e)
 among-map f (z ∷ xs) (there h) = there (among-map f xs h)
 
 among-at : {A : Type 0} {x : A} (d : A) (xs : List A) → Among x xs → (i : ℕ) × (i < length xs) × (get_or xs i d ≡ x)
+among-at d [] h = elim h [ ]
 among-at d (z ∷ xs) (here e) = (0, omega arith, sym e)
 among-at d (z ∷ xs) (there h) = let r = among-at d xs h in (suc r.0, omega (arith, r.1), r.2)
 
 -- tuples
 among-fronts : (m : Method) (r : List Method) (xs : List Method) (tuples : List (List Method)) → Among m xs → Among r tuples → Among (m ∷ r) (fronts xs tuples)
+among-fronts m r [] tuples h k = elim h [ ]
 among-fronts m r (x ∷ xs) tuples (here e) k = among-left (map (λ q. x ∷ q) tuples) (fronts xs tuples) (subst (λ z. Among (z ∷ r) (map (λ q. x ∷ q) tuples)) (sym e) (among-map (λ q. x ∷ q) tuples k))
 among-fronts m r (x ∷ xs) tuples (there h) k = among-right (map (λ q. x ∷ q) tuples) (fronts xs tuples) (among-fronts m r xs tuples h k)
 

@@ -1,6 +1,7 @@
 // The check of a state that is handed in, its parts: one cell (H9), one place (H10), one call (H11), and the counts of them (H1), in a table of any bytes
 // whose counts are within their limits.
 #![tactic(auto)]
+
 ghost use Rattle.std.specs.Prelude.{◌≡◌, ◌≤◌, ◌<◌, get_or};
 ghost use Rattle.spec_model.specs.Check.{no_raw_type};
 ghost use Rattle.spec_model.specs.Table.{max_methods, max_types};

@@ -1,6 +1,7 @@
 // A place of a state and what stands behind it: its type, owner and next place, its base (Q2, Q3), and the types of its adapters down to the class (C9, C19).
 // The records are those of crate `state_record`. What is behind an adapter lies below it (`Descending` there), so that going behind ends.
 #![tactic(auto)]
+
 ghost use Rattle.std.specs.Prelude.{◌≡◌, ◌<◌};
 ghost use Rattle.spec_model.specs.Crossing.{place_type, owner_of, base_owner};
 ghost use Rattle.spec_model.specs.Requests.{adapter_count};

@@ -2,6 +2,7 @@
 // state is handed in. Contracts speak of the model's lists (specs/View.antt); functions take the part that they need, so that the table is not copied.
 // What a place says and what stands behind it is asked in crate `state_places`.
 #![tactic(auto)]
+
 ghost use Rattle.std.specs.Prelude.{◌≡◌, true, [], ◌∷◌, ◌++◌, ◌≤◌, ◌<◌, length, get_or, set};
 ghost use Rattle.spec_model.specs.Crossing.{place_at, max_places};
 ghost use Rattle.spec_model.specs.Requests.{no_cell, no_call, flagged, max_cells, max_calls};

@@ -1,6 +1,7 @@
 // The check of a table that is handed in (H1 to H8, of the table's part), for any bytes and any counts: counts first, so that every index is below its count,
 // then the broader links (both in crate `table_check_links`), then each type with its signatures.
 #![tactic(auto)]
+
 ghost use Rattle.std.specs.Prelude.{◌≡◌, ◌≤◌, ◌<◌, get_or};
 ghost use Rattle.spec_model.specs.Table.{max_methods, max_types};
 ghost use Rattle.spec_model.specs.Check.{no_raw_type, table_accepted};

@@ -1,5 +1,6 @@
 // The check of a table that is handed in, its first part: counts within their limits (H1), and broader links that fall (H5), for any bytes and any counts.
 #![tactic(auto)]
+
 ghost use Rattle.std.specs.Prelude.{◌≡◌, suc, ◌≤◌, ◌<◌, get_or};
 ghost use Rattle.spec_model.specs.Table.{between, max_categories};
 ghost use Rattle.spec_model.specs.Check.{no_raw_links};

@@ -1,6 +1,7 @@
 // Records of types and of broader links stored in the bytes of a table, whole (B13). What stands where in the bytes is said in
 // crates/table_record/specs/Layout.antt.
 #![tactic(auto)]
+
 ghost use Rattle.std.specs.Prelude.{◌≡◌, suc, ◌+◌, ◌*◌, ◌≤◌, ◌<◌, length};
 ghost use Rattle.std.proofs.lemmas.List.Edits.{sets};
 ghost use Rattle.table_record.specs.Store.{raw_method, raw_of, raw_links, method_bytes, head_bytes, spare_bytes, links_bytes, Put};

@@ -1,7 +1,7 @@
 // The line cursor (docs/SPEC.md S20, F7): where the next line of a text begins. One call takes it past a line.
-// `skip_line` is lent the cursor; `next_line` above it has the cursor by value, so that whoever reads lines by it is proved as other code is. These two are
-// walked by hand (proofs/Walk.antt says why and how); the search for the LF and the line's own bytes are not.
+// `skip_line` is lent the cursor; `next_line` above it has the cursor by value, and whoever reads lines does so by it.
 #![tactic(auto)]
+
 ghost use Rattle.std.specs.Prelude.{◌≡◌, drop};
 ghost use Rattle.spec_sheet.specs.Lines.{split};
 ghost use Rattle.text_cursor.specs.View.{Clear, LineEnd, LineAt, past};

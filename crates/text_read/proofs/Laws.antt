@@ -19,7 +19,7 @@ use Rattle.spec_model.proofs.Rules.{never}
 use Rattle.spec_sheet.proofs.Steps.{refuse-ok}
 use Rattle.spec_sheet.proofs.Numbers.{is_digit-of}
 use Rattle.spec_sheet.proofs.Lines.{starts-sound}
-use Rattle.text_read.specs.View.{scanned, scan_by, ScanWithin, value_by, AtMost, read_by, GotAtMost, result, reading, passed_by, max_numbers}
+use Rattle.text_read.specs.View.{scanned, scan_by, ScanWithin, value_by, AtMost, read_by, GotAtMost, result_by, reading, passed_by, max_numbers}
 use Rattle.text_read.specs.View.{items_of, numbers_of, RestEmpty, no_numbers}
 use Rattle.text_read.specs.declared.Numbers.{Numbers}
 use Rattle.text_read.specs.declared.Value.{Value}
@@ -293,7 +293,7 @@ module _ {A : Type 0} (f : List ℕ → Res A) (empty : f [] ≡ refuse form) (s
           ∙ ap (λ z. line_at z at m rs) (q ∙ ap f (h.is ∙ ap first_line e))
 
   -- the same for an answer with a refusal's number
-  pub line-result : (nr : ℕ) (x : A) (to : ℕ) → result nr x ≡ f l → to ≡ cond (eqb nr 0) next at → reading s nr x to ≡ line f at (split (drop at s))
+  pub line-result : (nr : ℕ) (x : A) (to : ℕ) → result_by nr x ≡ f l → to ≡ cond (eqb nr 0) next at → reading s nr x to ≡ line f at (split (drop at s))
   line-result nr x to q e = go (eqb nr 0) refl
     where
       go : (b : Bool) → eqb nr 0 ≡ b → reading s nr x to ≡ line f at (split (drop at s))

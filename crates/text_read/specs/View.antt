@@ -62,8 +62,8 @@ GotAtMost high (Refusedᵍ k) = 0 < k
 GotAtMost high (At n c) = n ≤ high
 
 -- The same for results that hold an array: the number of a refusal, or 0 and the value.
-abbrev pub result : {A : Type 0} → ℕ → A → Res A
-result nr x = cond (eqb nr 0) (ok x) (refuse nr)
+abbrev pub result_by : {A : Type 0} → ℕ → A → Res A
+result_by nr x = cond (eqb nr 0) (ok x) (refuse nr)
 
 abbrev pub reading : {A : Type 0} → List ℕ → ℕ → A → ℕ → Reading A
 reading s nr x at = cond (eqb nr 0) (got x at (split (drop at s))) (refused nr at)

@@ -1,6 +1,7 @@
 // Words, decimals and what becomes of a line (docs/SPEC.md S20, S21), for every program that reads text. Crate `text_cursor` finds the lines.
 // Contracts say what is read in the words of crate `spec_sheet`: scans of a line, and readings of the lines from a byte offset on (specs/View.antt).
 #![tactic(auto)]
+
 ghost use Rattle.std.specs.Prelude.{◌≡◌, true, cond, [], ◌+◌, ◌*◌, ◌≤◌, ◌<◌, eqb, length, set, drop};
 ghost use Rattle.spec_sheet.specs.Lines.{split, line, starts, same};
 ghost use Rattle.spec_sheet.specs.Numbers.{top, limit, digits, number, numbers};

@@ -3,6 +3,7 @@
 // counts. The rest of the buffer, lent to the next writer, begins at `least` of what was written and the buffer's length: at its end, where the text was too
 // long.
 #![tactic(auto)]
+
 ghost use Rattle.std.specs.Prelude.{◌≡◌, [], ◌∷◌, ◌+◌, ◌≤◌, ◌<◌, length};
 ghost use Rattle.spec_sheet.specs.Numbers.{decimal};
 ghost use Rattle.spec_sheet.specs.Text.{number_text};

@@ -1,6 +1,7 @@
 // The program `tiny`: every tiny sheet, one behind the other in a lent buffer (P21, P26). Each is stored as a table and written by the sheet's own writer
 // (crate `sheet_write_table`); no text of it is kept.
 #![tactic(auto)]
+
 ghost use Rattle.std.specs.Prelude.{◌≡◌, ◌≤◌, ◌<◌, length};
 ghost use Rattle.table_record.specs.Store.{types_size};
 ghost use Rattle.spec_sheet.specs.Text.{text, write_text};

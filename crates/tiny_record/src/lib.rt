@@ -1,5 +1,6 @@
 // The record of the type of each tiny sheet, made of the sheet's number (P22 to P24), and the counts of its table.
 #![tactic(auto)]
+
 ghost use Rattle.std.specs.Prelude.{◌≡◌, ◌<◌};
 ghost use Rattle.spec_model.specs.Table.{type_at};
 ghost use Rattle.spec_model.specs.Records.{type_record};

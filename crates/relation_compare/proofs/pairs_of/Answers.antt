@@ -1,0 +1,20 @@
+-- The pair table of any table: 2 exactly where the check fails, else the one that is made of a checked table.
+use mathlib.Core.Path.{sym, ◌∙◌}
+use Rattle.table_check.proofs.Accepted.{accepted-checked}
+use Rattle.relation_compare.proofs.Laws.{pairs-fit, pairs-unfit}
+use Rattle.relation_compare.proofs.pairs_of.Goals as goal
+
+pub pair_table-entries-requires : goal.pair_table-entries-requires
+pair_table-entries-requires c =
+    let a = c.args in
+    accepted-checked a.b.now a.l.now a.c (sym c.table_fits.ensures ∙ c.if-table_fits.true)
+
+pub returns-then-table_fits : goal.returns-then-table_fits
+returns-then-table_fits c =
+    let a = c.args in
+    pairs-fit a.b.now a.l.now a.c c.pair_table-entries.result (sym c.table_fits.ensures ∙ c.if-table_fits.true) c.pair_table-entries.ensures
+
+pub returns : goal.returns
+returns c =
+    let a = c.args in
+    pairs-unfit a.b.now a.l.now a.c c.no_pairs-entries.result (sym c.table_fits.ensures ∙ c.if-table_fits.false) c.no_pairs-entries.ensures

@@ -1,0 +1,20 @@
+-- The loop has found that the first i arguments may stand; one that may not ends it (`args-broken`), and past the count all may.
+use mathlib.Core.Path.{◌≡◌, ap, sym, ◌∙◌}
+use Prim.Native.Nat.{◌≤◌, ◌<◌, ◌-◌}
+use native.Mathlib.Omega.{arith}
+use lib.ListN.{length, take, drop}
+use borrow.Author.Rules.{rules}
+use borrow.Author.Tests.{not-true, not-false}
+use Rattle.spec_model.specs.Basics.{all}
+use Rattle.spec_model.specs.Records.{argument_slots}
+use Rattle.table_record.specs.Store.{types_in}
+use Rattle.sheet_read_signatures.proofs.Laws.{args_end, args-broken, args-next, args-done}
+use Rattle.sheet_read_signatures.specs.Signatures.{stands_at}
+use Rattle.sheet_read_signatures.proofs.args_stand.Given as goal
+
+abbrev pub invariant-loop-i : goal.invariant-loop-i
+invariant-loop-i l = (l.i ≤ argument_slots) × (l.i ≤ l.count) × (l.count ≡ l.m.count) × (length l.m.args ≡ argument_slots) ×
+    (all (stands_at (types_in l.b) l.n) (take l.m.count l.m.args) ≡ all (stands_at (types_in l.b) l.n) (drop l.i (take l.m.count l.m.args)))
+
+abbrev pub decreases-loop-i : goal.decreases-loop-i
+decreases-loop-i l = 4 - l.i

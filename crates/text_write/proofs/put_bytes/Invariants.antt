@@ -1,0 +1,15 @@
+-- The loop has copied the first i bytes, and the rest of the buffer is as it was (`copy-next`, `copy-all`).
+use lib.ListN.{set, get_or, length, take, drop, length-set}
+use mathlib.Core.Path.{◌≡◌, refl, ap, ◌∙◌}
+use mathlib.Core.List.{◌++◌}
+use Prim.Native.Nat.{◌≤◌, ◌-◌}
+use Rattle.text_write.proofs.Laws.{fill-short, copy-next, copy-all}
+use native.Mathlib.Omega.{arith}
+use borrow.Author.Rules.{rules}
+use Rattle.text_write.proofs.put_bytes.Given as goal
+
+abbrev pub invariant-loop-i : goal.invariant-loop-i
+invariant-loop-i l = (l.i ≤ length l.t) × (length l.t ≤ length l.initial.buf) × (l.buf ≡ take l.i l.t ++ drop l.i l.initial.buf) × (length l.buf ≡ length l.initial.buf)
+
+abbrev pub decreases-loop-i : goal.decreases-loop-i
+decreases-loop-i l = length l.t - l.i
