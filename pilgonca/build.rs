@@ -1,6 +1,7 @@
 //! Links the core. Where PILGONCA_LIB_DIR names a directory that is its libpilgonca.a, which tools/install puts there. Else it is target/staticlib/libNAME.a
-//! of this repository for every crate of crates.txt whose name begins with `export_`, but for those of features that are off: `export_tiny` is of `tiny`,
-//! `export_doors` of `doors`, and all others but `export_sheet` and `export_table` are of `visits`. tools/libraries writes them (./test does that first).
+//! of this repository for every static library of crates.txt (NAME is export_X of a crate export_X_c too), but for those of features that are off:
+//! `export_tiny` is of `tiny`, `export_doors` of `doors`, and all others but `export_sheet` and `export_table` are of `visits`. tools/libraries writes them
+//! (./test does that first).
 //! What a library doesn't export is local to it, so functions that two of them hold don't clash. Packages that depend on this one need no build script.
 //! The tests that compile C find the files in PILGONCA_LIBRARIES.
 
@@ -34,16 +35,17 @@ fn in_the_repository() -> Vec<PathBuf> {
     let crates = root.join("crates.txt");
     println!("cargo:rerun-if-changed={}", crates.display());
     let text = fs::read_to_string(&crates).expect("crates.txt");
-    let names = text
+    let crates = text
         .lines()
-        .map(|line| line.split(':').next().unwrap_or(""));
-    names
+        .filter_map(|line| line.split_once(" staticlib:"));
+    crates
+        .map(|(name, _)| name.strip_suffix("_c").unwrap_or(name))
         .filter(|name| name.starts_with("export_") && is_on(name))
         .map(|name| root.join(format!("target/staticlib/lib{name}.a")))
         .collect()
 }
 
-/// Whether the feature that the functions of a crate are of is on.
+/// Whether the feature that the functions of a library are of is on.
 fn is_on(name: &str) -> bool {
     let feature = match name {
         "export_sheet" | "export_table" => return true,

@@ -8,13 +8,13 @@ use std::process::{Command, Output, Stdio};
 /// The stack of a device, in KB.
 pub const STACK: usize = 256;
 
-/// A proved program of target/bin; without it nothing that runs it can pass.
+/// A proved program, in its crate's out/; without it nothing that runs it can pass.
 pub fn built(name: &str) -> PathBuf {
-    let folder = Path::new(env!("CARGO_MANIFEST_DIR")).join("../target/bin");
-    let path = folder.join(name);
+    let crates = Path::new(env!("CARGO_MANIFEST_DIR")).join("../crates");
+    let path = crates.join(name).join("out").join(name);
     assert!(
         path.is_file(),
-        "{} is missing: build it with `rt check {name}`",
+        "{} is missing: build it with `tools/prove {name}`",
         path.display()
     );
     path

@@ -1,5 +1,5 @@
-//! Marks against arrivals (V): the C function, the package's and the program `doors` (target/bin/doors, built by `rt ci` or `rt check doors`) against the
-//! reference, and the function against the most pairs by augmenting paths, which are found here.
+//! Marks against arrivals (V): the C function, the package's and the program `doors` (crates/doors/out/doors, built by `rt ci` or `tools/prove doors`) against
+//! the reference, and the function against the most pairs by augmenting paths, which are found here.
 
 use conformance::doors::{all_same, equal, limits, longest, ours, proved, same, typical, Answer};
 use conformance::doors::{printed, Lists, INPUTS, LAST, MOST, UNSET, WIDEST};

@@ -1,4 +1,4 @@
-//! The proved program `pairs` (target/bin/pairs, built by `rt ci` or `rt check pairs`) against the reference's.
+//! The proved program `pairs` (crates/pairs/out/pairs, built by `rt ci` or `tools/prove pairs`) against the reference's.
 
 use conformance::inputs::{damaged, largest, shares, with_48_types, worst};
 use conformance::process::{built, feed, limited, plain, printed, run};

@@ -1,4 +1,4 @@
-//! The proved program `script` (target/bin/script, built by `rt ci` or `rt check script`) against the reference, whole outputs, all
+//! The proved program `script` (crates/script/out/script, built by `rt ci` or `tools/prove script`) against the reference, whole outputs, all
 //! in twice the stack that it needs.
 
 use conformance::calls::{self, all_calls, handed_out, one_of_each, ORDERS};

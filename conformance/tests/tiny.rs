@@ -1,5 +1,5 @@
-//! Every tiny sheet: what the program `tiny` (target/bin/tiny, built by `rt ci` or `rt check tiny`) prints and what its C function writes is the reference's,
-//! and each sheet goes through the reader, the writer and the programs `pairs` and `script`.
+//! Every tiny sheet: what the program `tiny` (crates/tiny/out/tiny, built by `rt ci` or `tools/prove tiny`) prints and what its C function writes is the
+//! reference's, and each sheet goes through the reader, the writer and the programs `pairs` and `script`.
 
 use conformance::process::{built, limited, plain, printed, run};
 use conformance::scripts::proved;

@@ -1,6 +1,7 @@
 // Small numbers: a byte as a number and back, a truth value as a byte, and the smaller of two. Every crate that reads or writes bytes uses these. And operands:
 // signed 64-bit numbers at every entry point, of which one becomes the number of a thing of which there are n. And the refusals by name.
 #![tactic(auto)]
+
 ghost use Rattle.std.specs.Prelude.{◌≡◌, ◌≤◌, ◌<◌, min};
 ghost use Rattle.spec_model.specs.Relations.{bit};
 ghost use Rattle.base_numbers.specs.Index.{index_of};

@@ -1,6 +1,7 @@
 // Closed(R,V) (D) over the lent bytes of a type table: of two reference types, with signatures by Sub and Sup (crate `derive_sub_sup`), and of two number
 // types.
 #![tactic(auto)]
+
 ghost use Rattle.std.specs.Prelude.{◌≡◌, true, ◌<◌};
 ghost use Rattle.spec_model.specs.Table.{closed};
 ghost use Rattle.table_record.specs.Store.{raw_of, ref_in};

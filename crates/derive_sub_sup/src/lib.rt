@@ -2,6 +2,7 @@
 // crate `derive_record`. Nothing below the count is ever written: what a refusal leaves past the count is open, every counted byte is as before (B22, B23).
 // What the results mean is in specs/Link.antt.
 #![tactic(auto)]
+
 ghost use Rattle.std.specs.Prelude.{◌≡◌};
 ghost use Rattle.spec_model.specs.Table.{sub, sup};
 ghost use Rattle.derive_sub_sup.specs.Link.{Ready, Derives, Gives};

@@ -1,6 +1,7 @@
 // The input of the program `doors` (P27, P28): the tolerance, a line of marks and a line of arrivals. Contracts say what is read in the words of crate
 // `spec_doors` (specs/View.antt). Whatever is refused here is a fault of form.
 #![tactic(auto)]
+
 ghost use Rattle.std.specs.Prelude.{◌≡◌, length, set, drop};
 ghost use Rattle.spec_sheet.specs.Lines.{split, line};
 ghost use Rattle.spec_doors.specs.Times.{max_times};

@@ -13,7 +13,7 @@ use Rattle.spec_model.specs.Table.{sub, closed, Table, type_at}
 use Rattle.spec_model.specs.Relations.{subtype, conforms, strict, loose, free, related}
 use Rattle.spec_model.specs.Restriction.{derived}
 use Rattle.spec_model.specs.Crossing.{Place, adapter, max_places, place_type, place_at, base_of, base_owner, Reference, adapt, cross}
-use Rattle.spec_model.specs.Requests.{System, max_cells, Result, pair, number, leaving, add_cell, renumber, cross_layers, send}
+use Rattle.spec_model.specs.Requests.{System, max_cells, Result, pair, leaving, add_cell, renumber, cross_layers, send}
 use Rattle.spec_model.proofs.Growth.{Grown, grown-refl, grown-trans}
 use Rattle.spec_model.specs.Refusals.{unrelated, not_owner, not_strict, places_full, cells_full}
 use Rattle.law_model.proofs.Steps.{IfOk, ok-try, ok-map, ok-need, whatever}

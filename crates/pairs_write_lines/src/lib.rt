@@ -1,5 +1,6 @@
 // The lines of a pair table (P17) into a lent buffer, each behind the one before it (F2).
 #![tactic(auto)]
+
 ghost use Rattle.std.specs.Prelude.{[], ◌∷◌, ◌≤◌, ◌<◌};
 ghost use Rattle.text_write.specs.Fill.{Filled, Lined};
 ghost use Rattle.pairs_write_lines.specs.Parts.{comparison_text, code_line, row_lines, code_lines};

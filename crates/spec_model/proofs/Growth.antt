@@ -13,7 +13,7 @@ use Rattle.spec_model.specs.Relations.{ArgsBy, AnswerBy, Relation, subtype, conf
 use Rattle.spec_model.specs.Chains.{permits, Permits}
 use Rattle.spec_model.proofs.Rules.{so-both}
 use Rattle.spec_model.proofs.Largest.{largest, keeps-related}
-use Rattle.spec_model.proofs.Derived.{SignaturesIn, AnswerBelow, CategoryOrder, here}
+use Rattle.spec_model.proofs.Derived.{SignaturesIn, AnswerBelow, CategoryOrder}
 use Rattle.spec_model.proofs.ChainLaws.{Onward, step, steps}
 
 pub record Grown (t u : Table) : Type 0 where

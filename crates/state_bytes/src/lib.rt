@@ -2,6 +2,7 @@
 // crate knows where in the bytes a cell, a place or a call stands. Only counted records are read and written, and none past an array's end: a count above the
 // limit is the check's to refuse (H1).
 #![tactic(auto)]
+
 ghost use Rattle.std.specs.Prelude.{◌≡◌, ◌&&◌, List, [], ◌∷◌, ℕ, ◌*◌, ◌<◌, length};
 ghost use Rattle.std.proofs.lemmas.List.Edits.{sets};
 ghost use Rattle.spec_model.specs.Crossing.{max_places};

@@ -1,6 +1,7 @@
 // The check of a state that is handed in (H1 to H11, H17), in its bytes: what crate `state_check` says of the records that stand there, for a caller who makes
 // none of them (offers). One record at a time is read and tested.
 #![tactic(auto)]
+
 ghost use Rattle.std.specs.Prelude.{◌≡◌, ℕ, ◌≤◌};
 ghost use Rattle.spec_model.specs.Check.{callers_fit, system_accepted};
 ghost use Rattle.spec_model.specs.Crossing.{max_places};

@@ -1,6 +1,7 @@
 // The check of a state that is handed in (H1 to H11, H17): any counts and any records. Counts first, so that every index is below its array's length, then the
 // table, then cells, places and calls.
 #![tactic(auto)]
+
 ghost use Rattle.std.specs.Prelude.{◌≡◌, ℕ, ◌≤◌};
 ghost use Rattle.spec_model.specs.Check.{callers_fit, system_accepted};
 ghost use Rattle.spec_model.specs.Crossing.{max_places};

@@ -79,12 +79,22 @@ fn member(owner: &str, word: &str) -> usize {
     found.unwrap_or_else(|| panic!("no {owner}::{word}"))
 }
 
-/// The crates of C functions.
+/// The crates of C functions: the static libraries.
 fn exporting() -> Vec<String> {
     let crates = read(&root().join("crates.txt"));
-    let names = crates.lines().filter_map(|line| line.split(':').next());
-    let exporting = names.filter(|name| name.starts_with("export_"));
-    exporting.map(String::from).collect()
+    let lines = crates.lines();
+    let named = lines.filter(|line| line.starts_with("export_"));
+    let exporting = named.filter_map(|line| line.split_once(" staticlib:"));
+    exporting.map(|(name, _)| String::from(name)).collect()
+}
+
+/// The crate that a line `use table_record::LINK_BYTES;` or `use table_record::{LINK_BYTES, TYPE_BYTES};` takes this word from.
+fn used_from<'a>(line: &'a str, word: &str) -> Option<&'a str> {
+    let line = line.strip_prefix("use ")?.strip_suffix(';')?;
+    let (from, words) = line.split_once("::")?;
+    let words = words.strip_prefix('{').unwrap_or(words);
+    let words = words.strip_suffix('}').unwrap_or(words);
+    words.split(", ").any(|one| one == word).then_some(from)
 }
 
 /// Every C function of the Rattle source.
@@ -95,16 +105,14 @@ fn exported() -> Functions {
         // a length is a number, or a constant of the crate that is used for it
         let length = |word: &str| {
             word.parse().unwrap_or_else(|_| {
-                let ending = format!("::{word};");
-                let mut lines = source.lines().filter_map(|line| line.strip_prefix("use "));
-                let from = lines.find_map(|line| line.strip_suffix(&ending));
+                let from = source.lines().find_map(|line| used_from(line, word));
                 constant(from.unwrap_or_else(|| panic!("{word} in {name}")), word)
             })
         };
-        let mark = "#[no_mangle]\npub extern \"C\" fn ";
+        let mark = "#[unsafe(no_mangle)]\npub extern \"C\" fn ";
         let found = rust_functions(&source, mark, &length, &|_| None);
         assert!(!found.is_empty(), "{name} exports nothing");
-        for word in ["extern \"C\"", "#[no_mangle]"] {
+        for word in ["extern \"C\"", "#[unsafe(no_mangle)]"] {
             assert_eq!(source.matches(word).count(), found.len(), "{name}: {word}");
         }
         for (function, declared) in found {

@@ -2,7 +2,6 @@
 use mathlib.Core.Path.{sym, ap, ◌∙◌}
 use Prim.Native.Nat.{ℕ}
 use native.Mathlib.Omega.{arith}
-use borrow.Author.Rules.{rules}
 use Rattle.spec_model.specs.Check.{answer_of}
 use Rattle.derive_slots.specs.Slots.{answer_slot}
 use Rattle.derive_slots.proofs.Laws.{no-left-answer, no-right-answer, both-answer}

@@ -3,7 +3,6 @@ use mathlib.Core.Path.{ap, ◌∙◌}
 use Prim.Native.Nat.{ℕ}
 use native.Mathlib.Omega.{arith}
 use lib.ListN.{get_or, take}
-use borrow.Author.Rules.{rules}
 use Rattle.derive_slots.specs.declared.Slot.TheVariants.{Argument}
 use Rattle.derive_slots.proofs.Laws.{empty_left, empty_right, both-there}
 use Rattle.derive_slots.proofs.argument_slot.Goals as goal

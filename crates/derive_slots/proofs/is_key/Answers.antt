@@ -2,7 +2,6 @@
 use mathlib.Core.Path.{sym, ◌∙◌}
 use Rattle.spec_model.specs.Check.{kind_of}
 use Rattle.derive_slots.proofs.Laws.{key-left, key-right, key-kind}
-use borrow.Author.Rules.{rules}
 use Rattle.derive_slots.proofs.is_key.Goals as goal
 
 pub returns-then-key-l : goal.returns-then-key-l

@@ -6,7 +6,6 @@ use Rattle.spec_model.specs.Table.{State}
 use Rattle.spec_model.specs.Check.{state_of}
 use Rattle.derive_slots.specs.Slots.{kept_state}
 use Rattle.derive_slots.proofs.Laws.{kept-not, kept-both, kept-lost}
-use borrow.Author.Rules.{rules}
 use Rattle.derive_slots.proofs.kept_state.Goals as goal
 
 pub returns-then-not-p : goal.returns-then-not-p

@@ -5,7 +5,6 @@ use Rattle.spec_model.specs.Table.{Method}
 use Rattle.spec_model.specs.Check.{kind_of, method_of}
 use Rattle.table_record.specs.Store.{raw_method}
 use Rattle.derive_slots.specs.Slots.{slot_of, method_at, method_slots}
-use borrow.Author.Rules.{rules}
 use Rattle.derive_slots.proofs.slot_at.Goals as goal
 
 pub returns : goal.returns

@@ -3,7 +3,6 @@ use mathlib.Core.Bool.{not}
 use mathlib.Core.Path.{sym, ap, ◌∙◌}
 use native.Mathlib.Omega.{arith}
 use borrow.Author.Tests.{not-true, not-false}
-use borrow.Author.Rules.{rules}
 use Rattle.spec_model.specs.Table.{permit}
 use Rattle.spec_model.specs.Check.{kind_of}
 use Rattle.table_record.specs.Store.{raw_method}

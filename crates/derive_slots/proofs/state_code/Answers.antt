@@ -1,7 +1,6 @@
 -- Rests on `state-high`.
 use Rattle.table_record.proofs.Codes.{state-high}
 use native.Mathlib.Omega.{arith}
-use borrow.Author.Rules.{rules}
 use Rattle.derive_slots.proofs.state_code.Goals as goal
 
 pub returns : goal.returns

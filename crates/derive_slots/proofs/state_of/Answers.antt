@@ -5,7 +5,6 @@ use Rattle.spec_model.specs.Restriction.{restricted}
 use Rattle.spec_model.specs.Check.{state_of, kind_of}
 use Rattle.derive_slots.proofs.Laws.{closed-off, closed_on, closed_none}
 use native.Mathlib.Omega.{arith}
-use borrow.Author.Rules.{rules}
 use Rattle.derive_slots.proofs.state_of.Goals as goal
 
 pub returns-then-kind-eq-SUB : goal.returns-then-kind-eq-SUB

@@ -1,13 +1,9 @@
 -- The invariant: the pairs of the whole lists are those made so far and those of what is left. Each turn passes a mark, an arrival or both.
 use mathlib.Core.Path.{◌≡◌}
 use Prim.Native.Nat.{◌≤◌, ◌-◌, ◌+◌}
-use native.Mathlib.Omega.{arith}
 use lib.ListN.{length}
-use borrow.Author.Rules.{rules}
 use Rattle.spec_doors.specs.Held.{pairs_of}
 use Rattle.spec_doors.proofs.Pass.{left}
-use Rattle.spec_doors.proofs.Rising.{none-late}
-use Rattle.doors_hold.proofs.Laws.{before-all, marks-over, arrivals-over, next-mark, next-arrival, next-pair}
 use Rattle.doors_hold.proofs.count_pairs.Given as goal
 
 abbrev pub invariant-loop-i : goal.invariant-loop-i

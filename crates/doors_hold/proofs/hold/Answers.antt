@@ -3,7 +3,6 @@ use mathlib.Core.Bool.{not}
 use mathlib.Core.Path.{ap}
 use mathlib.Core.Path.{sym}
 use native.Mathlib.Omega.{arith}
-use borrow.Author.Rules.{rules}
 use Rattle.spec_doors.proofs.Rising.{fit-rising}
 use Rattle.spec_doors.proofs.Pass.{few-pairs}
 use Rattle.doors_hold.proofs.Laws.{refuses, accepts, too-wide, marks-unfit, arrivals-unfit, all-counted}

@@ -1,10 +1,6 @@
-use mathlib.Core.Path.{◌≡◌, refl, ◌∙◌}
+use mathlib.Core.Path.{refl, ◌∙◌}
 use mathlib.Core.Bool.{true, false}
-use Prim.Native.Nat.{◌≤◌, ◌-◌}
 use native.Mathlib.Omega.{arith}
-use lib.ListN.{length, drop}
-use borrow.Author.Rules.{rules}
-use Rattle.spec_doors.specs.Times.{rising}
 use Rattle.doors_hold.proofs.Laws.{rises, falls, too-late, none_left, too-many, as-rising}
 use Rattle.doors_hold.proofs.times_fit.Goals as goal
 

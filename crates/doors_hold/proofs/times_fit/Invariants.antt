@@ -1,12 +1,8 @@
 -- The invariant: the test of the whole list is the test of what is left of it, from the last time on.
-use mathlib.Core.Path.{◌≡◌, refl, ◌∙◌}
-use mathlib.Core.Bool.{true, false}
+use mathlib.Core.Path.{◌≡◌}
 use Prim.Native.Nat.{◌≤◌, ◌-◌}
-use native.Mathlib.Omega.{arith}
 use lib.ListN.{length, drop}
-use borrow.Author.Rules.{rules}
 use Rattle.spec_doors.specs.Times.{rising}
-use Rattle.doors_hold.proofs.Laws.{rises, falls, too-late, none_left, too-many, as-rising}
 use Rattle.doors_hold.proofs.times_fit.Given as goal
 
 abbrev pub invariant-loop-k : goal.invariant-loop-k

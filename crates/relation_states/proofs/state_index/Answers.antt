@@ -1,6 +1,5 @@
 -- A state's code is its row; a code above the states is read as unavail (`state-high`).
 use native.Mathlib.Omega.{arith}
-use borrow.Author.Rules.{rules}
 use Rattle.table_record.proofs.Codes.{state-high}
 use Rattle.relation_states.proofs.state_index.Goals as goal
 

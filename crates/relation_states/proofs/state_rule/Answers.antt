@@ -1,6 +1,5 @@
 -- The square at the rows of two codes is the state rule of the states that they mean (`says_at`); of one code with itself nothing need be looked up (`same_code`).
 use mathlib.Core.Path.{◌∙◌}
-use borrow.Author.Rules.{rules}
 use Rattle.relation_states.proofs.Squares.{says_at, same_code}
 use Rattle.relation_states.specs.Asked.{relation_of}
 use Rattle.relation_states.proofs.state_rule.Goals as goal

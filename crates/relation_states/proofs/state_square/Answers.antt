@@ -1,6 +1,5 @@
 -- Each relation has its square, which says the relation's state rule at every two states (proofs/Squares).
 use mathlib.Core.Path.{refl}
-use borrow.Author.Rules.{rules}
 use Rattle.spec_model.specs.Relations.{subtype, conforms, strict, loose, free}
 use Rattle.relation_states.proofs.Squares.{says}
 use Rattle.relation_states.proofs.state_square.Goals as goal

@@ -1,5 +1,4 @@
 -- By whether a value is given.
-use borrow.Author.Rules.{rules}
 use Rattle.request_operands.proofs.Listing.{answer-three}
 use Rattle.request_operands.proofs.answer_count.Goals as goal
 

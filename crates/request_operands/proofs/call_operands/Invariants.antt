@@ -1,16 +1,9 @@
 -- The loop has put i arguments behind the first three operands. A signed number is kept as 64 bits (`to_z-of_z`, `is_read`).
-use mathlib.Core.Path.{◌≡◌, refl, ◌∙◌}
+use mathlib.Core.Path.{◌≡◌}
 use mathlib.Core.List.{◌∷◌}
 use Prim.Native.Nat.{suc, ◌+◌, ◌-◌, ◌≤◌}
-use mir.Facts.{to_z-of_z}
-use mir.Syntax.{w64}
-use mir.Val.{to_z}
-use lib.ListN.{length, take, length-set}
-use native.Mathlib.Omega.{arith}
-use borrow.Author.Rules.{rules}
+use lib.ListN.{length, take}
 use Rattle.spec_model.specs.Table.{max_arguments}
-use Rattle.request_operands.proofs.Words.{is_read}
-use Rattle.request_operands.proofs.Listing.{listed-all, listed-cut, listed_next}
 use Rattle.request_operands.proofs.call_operands.Given as goal
 
 abbrev pub invariant-loop-i : goal.invariant-loop-i

@@ -2,7 +2,6 @@
 use mathlib.Core.Path.{◌∙◌}
 use lib.ListN.{drop}
 use Rattle.script_read_request.proofs.Laws.{same-empty, end-code, end-count, end-dash}
-use borrow.Author.Rules.{rules}
 use Rattle.script_read_request.proofs.ends.Goals as goal
 
 pub returns-then-code-ne3 : goal.returns-then-code-ne3

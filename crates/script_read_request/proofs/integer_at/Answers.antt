@@ -3,7 +3,6 @@ use Prim.Native.Nat.{◌<◌}
 use lib.ListN.{length}
 use Rattle.script_read_request.proofs.Laws.{integer-none, integer-minus, integer-plus}
 use native.Mathlib.Omega.{arith}
-use borrow.Author.Rules.{rules}
 use Rattle.script_read_request.proofs.integer_at.Goals as goal
 
 pub returns-then-at-l : goal.returns-then-at-l

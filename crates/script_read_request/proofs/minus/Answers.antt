@@ -8,7 +8,6 @@ use mir.Val.{to_z, of_z, SFits}
 use Rattle.script_read_request.specs.Asked.{half}
 use Rattle.script_read_request.proofs.Laws.{signed, below, below-fits}
 use native.Mathlib.Omega.{arith}
-use borrow.Author.Rules.{rules}
 use Rattle.script_read_request.proofs.minus.Goals as goal
 
 pub overflow_sub-result : goal.overflow_sub-result

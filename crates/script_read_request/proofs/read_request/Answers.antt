@@ -3,7 +3,6 @@ use mathlib.Core.Path.{sym, ◌∙◌}
 use Rattle.text_read.proofs.Laws.{starts-length}
 use Rattle.script_read_request.specs.Asked.{word}
 use Rattle.script_read_request.proofs.Laws.{line-new, line-move, line-call, line-answer, line_other}
-use borrow.Author.Rules.{rules}
 use Rattle.script_read_request.proofs.read_request.Goals as goal
 
 pub request_at-requires : goal.request_at-requires

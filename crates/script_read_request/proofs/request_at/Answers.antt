@@ -1,11 +1,10 @@
 use mir.Facts.{to_z-of_z}
 use mir.Syntax.{w64}
+use mir.Val.{SFits}
 use Rattle.script_read_request.proofs.Laws.{operands-many, operands_end, operands-more, integer-within, taken, reads}
-use mathlib.Core.Path.{◌≡◌, refl, ◌∙◌}
-use mathlib.Core.List.{[]}
-use Prim.Native.Nat.{◌-◌, ◌≤◌, ◌<◌}
-use lib.ListN.{length, take, drop, length-set}
-use Rattle.script_read_request.specs.Asked.{operands, max_operands}
+use mathlib.Core.Path.{refl, ◌∙◌}
+use Prim.Native.Nat.{◌<◌}
+use lib.ListN.{length, take, length-set}
 use native.Mathlib.Omega.{arith}
 use borrow.Author.Rules.{rules}
 use Rattle.script_read_request.proofs.request_at.Goals as goal
@@ -25,7 +24,15 @@ loop-count-preserved c =
     let a = c.args in
     let p = c.loop-count in
     let t = c.operand_at-t in
-    let h = c.in-Right in ?
+    let v = c.in-Right.v in
+    let z : SFits w64 v = search rules in
+    let k : p.count < length p.items = omega arith in
+    rw (to_z-of_z z) (
+      integer-within _ t.result _ _ c.in-Right.is t.ensures.within,
+      omega arith,
+      length-set p.items p.count v ∙ p.invariant.2,
+      operands-more a.l.now p.items p.count p.i _ p.invariant.3 c.loop-count-test.true t.result t.ensures.is k v _ c.in-Right.is,
+    )
 
 pub returns : goal.returns
 returns c =

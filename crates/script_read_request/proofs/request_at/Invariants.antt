@@ -1,14 +1,9 @@
 -- The operands read so far and those that are left are the line's operands; then `reads`.
-use mir.Facts.{to_z-of_z}
-use mir.Syntax.{w64}
-use Rattle.script_read_request.proofs.Laws.{operands-many, operands_end, operands-more, integer-within, taken, reads}
-use mathlib.Core.Path.{◌≡◌, refl, ◌∙◌}
+use mathlib.Core.Path.{◌≡◌}
 use mathlib.Core.List.{[]}
-use Prim.Native.Nat.{◌-◌, ◌≤◌, ◌<◌}
-use lib.ListN.{length, take, drop, length-set}
+use Prim.Native.Nat.{◌-◌, ◌≤◌}
+use lib.ListN.{length, take, drop}
 use Rattle.script_read_request.specs.Asked.{operands, max_operands}
-use native.Mathlib.Omega.{arith}
-use borrow.Author.Rules.{rules}
 use Rattle.script_read_request.proofs.request_at.Given as goal
 
 abbrev pub invariant-loop-count : goal.invariant-loop-count

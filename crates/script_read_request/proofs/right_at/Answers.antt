@@ -4,7 +4,6 @@ use mathlib.Core.Path.{ap, sym, ◌∙◌}
 use mathlib.Core.Bool.{Bool, ◌&&◌}
 use borrow.Author.Tests.{not-true, not-false}
 use Rattle.script_read_request.specs.Read.{count_fits}
-use borrow.Author.Rules.{rules}
 use Rattle.script_read_request.proofs.right_at.Goals as goal
 
 pub returns-then-not-ends : goal.returns-then-not-ends

@@ -4,7 +4,6 @@ use mir.Facts.{to_z-of_z}
 use mir.Syntax.{w64}
 use Rattle.script_read_request.specs.Asked.{positive}
 use Rattle.script_read_request.proofs.Laws.{sign-wrong, sign-within, plus-past, plus-right}
-use borrow.Author.Rules.{rules}
 use Rattle.script_read_request.proofs.unsigned.Goals as goal
 
 pub returns-in_default : goal.returns-in_default

@@ -1,12 +1,8 @@
 use mathlib.Core.Bool.{not}
-use mathlib.Core.Path.{◌≡◌, ap, sym, ◌∙◌}
-use Prim.Native.Nat.{◌≤◌, ◌<◌, ◌-◌}
+use mathlib.Core.Path.{ap, sym, ◌∙◌}
+use Prim.Native.Nat.{◌<◌}
 use native.Mathlib.Omega.{arith}
-use lib.ListN.{length, take, drop}
-use borrow.Author.Rules.{rules}
 use borrow.Author.Tests.{not-true, not-false}
-use Rattle.spec_model.specs.Basics.{all}
-use Rattle.spec_model.specs.Records.{argument_slots}
 use Rattle.table_record.specs.Store.{types_in}
 use Rattle.sheet_read_signatures.proofs.Laws.{args_end, args-broken, args-next, args-done}
 use Rattle.sheet_read_signatures.specs.Signatures.{stands_at}

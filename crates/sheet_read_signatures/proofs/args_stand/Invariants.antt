@@ -1,14 +1,10 @@
 -- The loop has found that the first i arguments may stand; one that may not ends it (`args-broken`), and past the count all may.
-use mathlib.Core.Path.{◌≡◌, ap, sym, ◌∙◌}
-use Prim.Native.Nat.{◌≤◌, ◌<◌, ◌-◌}
-use native.Mathlib.Omega.{arith}
+use mathlib.Core.Path.{◌≡◌}
+use Prim.Native.Nat.{◌≤◌, ◌-◌}
 use lib.ListN.{length, take, drop}
-use borrow.Author.Rules.{rules}
-use borrow.Author.Tests.{not-true, not-false}
 use Rattle.spec_model.specs.Basics.{all}
 use Rattle.spec_model.specs.Records.{argument_slots}
 use Rattle.table_record.specs.Store.{types_in}
-use Rattle.sheet_read_signatures.proofs.Laws.{args_end, args-broken, args-next, args-done}
 use Rattle.sheet_read_signatures.specs.Signatures.{stands_at}
 use Rattle.sheet_read_signatures.proofs.args_stand.Given as goal
 

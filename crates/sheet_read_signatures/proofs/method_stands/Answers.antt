@@ -2,7 +2,6 @@
 use mathlib.Core.Bool.{not}
 use mathlib.Core.Path.{ap}
 use mathlib.Core.Path.{sym, ◌∙◌}
-use borrow.Author.Rules.{rules}
 use borrow.Author.Tests.{not-true, not-false}
 use Rattle.table_record.specs.Store.{types_in, raw_method}
 use Rattle.sheet_read_signatures.proofs.Laws.{method-unsigned, method-args, method-silent, method-answer}

@@ -1,6 +1,5 @@
 -- A type number that is none of n may stand, since it is refused elsewhere; one of them by its own flag.
 use mathlib.Core.Path.{◌∙◌}
-use borrow.Author.Rules.{rules}
 use Rattle.table_record.specs.Store.{types_in}
 use Rattle.sheet_read_signatures.proofs.Laws.{stands-out, stands-in}
 use Rattle.sheet_read_signatures.proofs.stands_at.Goals as goal

@@ -1,11 +1,10 @@
 use mathlib.Core.Bool.{not}
 use mathlib.Core.Path.{◌≡◌, refl, ap, sym, ◌∙◌}
-use Prim.Native.Nat.{ℕ, ◌≤◌, ◌-◌}
+use Prim.Native.Nat.{ℕ}
 use native.Mathlib.Omega.{arith}
-use lib.ListN.{length, get_or, drop}
-use borrow.Author.Rules.{rules}
+use lib.ListN.{length, get_or}
 use borrow.Author.Tests.{not-true, not-false}
-use Rattle.spec_model.specs.Basics.{all, from}
+use Rattle.spec_model.specs.Basics.{from}
 use Rattle.spec_model.specs.Check.{no_raw_type, no_raw_method, method_of}
 use Rattle.spec_model.specs.Table.{Method}
 use Rattle.table_record.proofs.Codes.{number-rep}

@@ -1,19 +1,11 @@
 -- The loop has found that the first j methods' types may stand; one that may not ends it, and a number type has no methods.
-use mathlib.Core.Path.{◌≡◌, refl, ap, sym, ◌∙◌}
-use Prim.Native.Nat.{ℕ, ◌≤◌, ◌-◌}
-use native.Mathlib.Omega.{arith}
-use lib.ListN.{length, get_or, drop}
-use borrow.Author.Rules.{rules}
-use borrow.Author.Tests.{not-true, not-false}
+use mathlib.Core.Path.{◌≡◌}
+use Prim.Native.Nat.{◌≤◌, ◌-◌}
+use lib.ListN.{get_or, drop}
 use Rattle.spec_model.specs.Basics.{all, from}
 use Rattle.spec_model.specs.Check.{no_raw_type, no_raw_method, method_of}
-use Rattle.spec_model.specs.Table.{Method}
-use Rattle.table_record.proofs.Codes.{number-rep}
-use Rattle.table_record.proofs.Lists.{length_from, from_first}
 use Rattle.table_record.specs.Store.{types_in}
-use Rattle.table_record.specs.declared.Head.{Head}
 use Rattle.spec_sheet.specs.Sheet.{stands}
-use Rattle.sheet_read_signatures.proofs.Laws.{all-broken, all-next, all_done, methods-number, methods-ref}
 use Rattle.sheet_read_signatures.specs.Signatures.{stands_at}
 use Rattle.sheet_read_signatures.proofs.type_stands.Given as goal
 

@@ -1,11 +1,8 @@
 use mathlib.Core.Bool.{not}
 use mathlib.Core.Path.{◌≡◌, refl, ap, sym, ◌∙◌}
-use Prim.Native.Nat.{◌≤◌, ◌-◌}
 use native.Mathlib.Omega.{arith}
-use lib.ListN.{length, drop}
-use borrow.Author.Rules.{rules}
+use lib.ListN.{length}
 use borrow.Author.Tests.{not-true, not-false}
-use Rattle.spec_model.specs.Basics.{all}
 use Rattle.spec_model.specs.Table.{no_type}
 use Rattle.table_record.proofs.Tables.{types-to-length, types-to-at}
 use Rattle.table_record.specs.Store.{types_in, types_to}

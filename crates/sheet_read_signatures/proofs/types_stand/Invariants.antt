@@ -1,15 +1,9 @@
 -- The loop has found that the first i types' signatures may stand; one that may not ends it.
-use mathlib.Core.Path.{◌≡◌, refl, ap, sym, ◌∙◌}
+use mathlib.Core.Path.{◌≡◌}
 use Prim.Native.Nat.{◌≤◌, ◌-◌}
-use native.Mathlib.Omega.{arith}
-use lib.ListN.{length, drop}
-use borrow.Author.Rules.{rules}
-use borrow.Author.Tests.{not-true, not-false}
+use lib.ListN.{drop}
 use Rattle.spec_model.specs.Basics.{all}
-use Rattle.spec_model.specs.Table.{no_type}
-use Rattle.table_record.proofs.Tables.{types-to-length, types-to-at}
 use Rattle.table_record.specs.Store.{types_in, types_to}
-use Rattle.sheet_read_signatures.proofs.Laws.{all-broken, all-next, all_done}
 use Rattle.sheet_read_signatures.specs.Signatures.{type_stands}
 use Rattle.sheet_read_signatures.proofs.types_stand.Given as goal
 

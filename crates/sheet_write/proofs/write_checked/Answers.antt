@@ -6,7 +6,6 @@ use Rattle.text_write.proofs.Written.{short-is, length-is}
 use Rattle.sheet_write.proofs.Results.{fit_is}
 use Rattle.table_check.proofs.Accepted.{accepted-limits}
 use Rattle.table_record.specs.Store.{raw_table}
-use borrow.Author.Rules.{rules}
 use Rattle.sheet_write.proofs.write_checked.Goals as goal
 
 pub put_sheet-need-requires : goal.put_sheet-need-requires

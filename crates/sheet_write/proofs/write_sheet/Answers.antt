@@ -2,7 +2,6 @@
 use Rattle.sheet_write.proofs.Results.{unfit-is}
 use Rattle.table_record.specs.Store.{raw_table}
 use mathlib.Core.Path.{sym, ◌∙◌}
-use borrow.Author.Rules.{rules}
 use Rattle.sheet_write.proofs.write_sheet.Goals as goal
 
 pub write_checked-requires : goal.write_checked-requires

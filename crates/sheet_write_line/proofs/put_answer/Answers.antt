@@ -2,7 +2,6 @@
 use Rattle.sheet_write_line.proofs.Laws.{answer-none, answer-some}
 use Rattle.text_write.proofs.Laws.{fill_is}
 use native.Mathlib.Omega.{arith}
-use borrow.Author.Rules.{rules}
 use Rattle.sheet_write_line.proofs.put_answer.Goals as goal
 
 pub returns-then-answer-eq0 : goal.returns-then-answer-eq0

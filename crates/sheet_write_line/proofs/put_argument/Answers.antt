@@ -2,7 +2,6 @@
 use Rattle.sheet_write_line.proofs.Laws.{argument-first, argument-later}
 use Rattle.text_write.proofs.Laws.{fill_is}
 use native.Mathlib.Omega.{arith}
-use borrow.Author.Rules.{rules}
 use Rattle.sheet_write_line.proofs.put_argument.Goals as goal
 
 pub returns-then-i-eq0 : goal.returns-then-i-eq0

@@ -1,9 +1,7 @@
 use Rattle.sheet_write_line.proofs.Laws.{argument-next, slots}
 use Rattle.text_write.proofs.Laws.{fill_none, fill-rest, fill_is}
-use Rattle.text_write.specs.Fill.{Filled}
 use Rattle.spec_sheet.specs.Numbers.{commas}
 use lib.ListN.{length, take}
-use Prim.Native.Nat.{◌-◌, ◌*◌, ◌≤◌}
 use mathlib.Core.Path.{◌≡◌, ap, ◌∙◌}
 use native.Mathlib.Omega.{arith}
 use borrow.Author.Rules.{rules}

@@ -2,7 +2,6 @@
 use Rattle.sheet_write_line.proofs.Laws.{closing-is}
 use Rattle.text_write.proofs.Laws.{fill-rest, fill_is}
 use native.Mathlib.Omega.{arith}
-use borrow.Author.Rules.{rules}
 use Rattle.sheet_write_line.proofs.put_closing.Goals as goal
 
 pub returns : goal.returns

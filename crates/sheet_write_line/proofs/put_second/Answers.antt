@@ -2,7 +2,6 @@
 use Rattle.sheet_write_line.proofs.Laws.{second_is, second_none}
 use Rattle.text_write.proofs.Laws.{fill_is}
 use native.Mathlib.Omega.{arith}
-use borrow.Author.Rules.{rules}
 use Rattle.sheet_write_line.proofs.put_second.Goals as goal
 
 pub returns-then-x-eq2 : goal.returns-then-x-eq2

@@ -2,7 +2,6 @@
 use Rattle.sheet_write_line.proofs.Laws.{denied-is, optional-is, avail-is, unavail-is}
 use Rattle.text_write.proofs.Laws.{lines_are}
 use native.Mathlib.Omega.{arith}
-use borrow.Author.Rules.{rules}
 use Rattle.sheet_write_line.proofs.write_method.Goals as goal
 
 pub returns-then-state-eq-DENIED : goal.returns-then-state-eq-DENIED

@@ -1,7 +1,6 @@
 -- The line of the own flag is chosen by its code, as the definition chooses by the flag.
 use Rattle.sheet_write_line.proofs.Laws.{own-yes, own-no}
 use Rattle.text_write.proofs.Laws.{lines_are}
-use borrow.Author.Rules.{rules}
 use Rattle.sheet_write_line.proofs.write_own.Goals as goal
 
 pub returns-then-own-eq-OWN : goal.returns-then-own-eq-OWN

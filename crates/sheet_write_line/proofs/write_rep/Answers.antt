@@ -1,7 +1,6 @@
 -- The line of a representation is chosen by its code, as the definition chooses by the representation.
 use Rattle.sheet_write_line.proofs.Laws.{rep-is, rep-else}
 use Rattle.text_write.proofs.Laws.{lines_are}
-use borrow.Author.Rules.{rules}
 use Rattle.sheet_write_line.proofs.write_rep.Goals as goal
 
 pub returns-then-rep-eq-REF : goal.returns-then-rep-eq-REF

@@ -2,7 +2,6 @@
 use Rattle.sheet_write_line.proofs.Laws.{under-is}
 use Rattle.text_write.proofs.Laws.{fill-rest, fill_is, ended}
 use native.Mathlib.Omega.{arith}
-use borrow.Author.Rules.{rules}
 use Rattle.sheet_write_line.proofs.write_under.Goals as goal
 
 pub returns : goal.returns

@@ -1,7 +1,6 @@
 -- The lines in front and those behind, written in the rest (`lines_rest`), are the sheet's text (`sheet-is`).
 use Rattle.sheet_write_table.proofs.Whole.{sheet-is}
 use Rattle.text_write.proofs.Laws.{lines_rest}
-use borrow.Author.Rules.{rules}
 use Rattle.sheet_write_table.proofs.put_sheet.Goals as goal
 
 pub returns : goal.returns

@@ -2,7 +2,6 @@
 use Rattle.text_write.proofs.Laws.{lines_rest}
 use Rattle.sheet_write_table.specs.Parts.{back_lines}
 use native.Mathlib.Omega.{arith}
-use borrow.Author.Rules.{rules}
 use Rattle.sheet_write_table.proofs.write_back.Goals as goal
 
 pub returns : goal.returns

@@ -1,7 +1,6 @@
 -- Four lines of a count each, written one behind the other in the rest of the buffer (`lines_rest`).
 use Rattle.text_write.proofs.Laws.{lines_rest}
 use native.Mathlib.Omega.{arith}
-use borrow.Author.Rules.{rules}
 use Rattle.sheet_write_table.proofs.write_counts.Goals as goal
 
 pub returns : goal.returns

@@ -5,7 +5,6 @@ use Rattle.spec_sheet.specs.Text.{number_text}
 use Rattle.spec_sheet.specs.Lines.{bytes}
 use mathlib.Core.List.{[], ◌∷◌, append_assoc}
 use native.Mathlib.Omega.{arith}
-use borrow.Author.Rules.{rules}
 use Rattle.sheet_write_table.proofs.write_front.Goals as goal
 
 pub returns : goal.returns

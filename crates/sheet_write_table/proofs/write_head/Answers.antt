@@ -6,7 +6,6 @@ use Rattle.spec_model.specs.Check.{rep_of}
 use mathlib.Core.List.{[], ◌∷◌}
 use mathlib.Core.Path.{ap}
 use native.Mathlib.Omega.{arith}
-use borrow.Author.Rules.{rules}
 use Rattle.sheet_write_table.proofs.write_head.Goals as goal
 
 pub returns : goal.returns

@@ -1,10 +1,6 @@
 use Rattle.sheet_write_table.proofs.Laws.{method-next, methods-all, methods-none}
 use Rattle.text_write.proofs.Laws.{lines_none, lines_rest, lines_are}
-use Rattle.sheet_write_table.specs.Parts.{method_lines}
-use Rattle.text_write.specs.Fill.{Lined}
-use Prim.Native.Nat.{◌-◌, ◌*◌, ◌≤◌}
 use native.Mathlib.Omega.{arith}
-use borrow.Author.Rules.{rules}
 use Rattle.sheet_write_table.proofs.write_methods.Goals as goal
 
 pub loop-j-init : goal.loop-j-init

@@ -1,11 +1,7 @@
 -- The loop has written the lines of the first j methods, and one more goes into the rest of the buffer (`lines_rest`, `method-next`).
-use Rattle.sheet_write_table.proofs.Laws.{method-next, methods-all, methods-none}
-use Rattle.text_write.proofs.Laws.{lines_none, lines_rest, lines_are}
 use Rattle.sheet_write_table.specs.Parts.{method_lines}
 use Rattle.text_write.specs.Fill.{Lined}
 use Prim.Native.Nat.{◌-◌, ◌*◌, ◌≤◌}
-use native.Mathlib.Omega.{arith}
-use borrow.Author.Rules.{rules}
 use Rattle.sheet_write_table.proofs.write_methods.Given as goal
 
 abbrev pub invariant-loop-j : goal.invariant-loop-j

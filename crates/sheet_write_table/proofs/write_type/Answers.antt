@@ -2,7 +2,6 @@
 use Rattle.sheet_write_table.proofs.Laws.{ref-type, number-type}
 use Rattle.text_write.proofs.Laws.{lines_rest, lines_are}
 use native.Mathlib.Omega.{arith}
-use borrow.Author.Rules.{rules}
 use Rattle.sheet_write_table.proofs.write_type.Goals as goal
 
 pub returns-then-h-ne-REF : goal.returns-then-h-ne-REF

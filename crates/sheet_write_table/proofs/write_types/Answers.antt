@@ -1,10 +1,6 @@
 use Rattle.sheet_write_table.proofs.Laws.{type-next, types-all, types-none}
 use Rattle.text_write.proofs.Laws.{lines_none, lines_rest, lines_are}
-use Rattle.sheet_write_table.specs.Parts.{type_lines_to}
-use Rattle.text_write.specs.Fill.{Lined}
-use Prim.Native.Nat.{◌-◌, ◌*◌, ◌≤◌}
 use native.Mathlib.Omega.{arith}
-use borrow.Author.Rules.{rules}
 use Rattle.sheet_write_table.proofs.write_types.Goals as goal
 
 pub loop-i-init : goal.loop-i-init

@@ -1,11 +1,7 @@
 -- The loop has written the lines of the first i types, and one more's go into the rest of the buffer (`lines_rest`, `type-next`).
-use Rattle.sheet_write_table.proofs.Laws.{type-next, types-all, types-none}
-use Rattle.text_write.proofs.Laws.{lines_none, lines_rest, lines_are}
 use Rattle.sheet_write_table.specs.Parts.{type_lines_to}
 use Rattle.text_write.specs.Fill.{Lined}
 use Prim.Native.Nat.{◌-◌, ◌*◌, ◌≤◌}
-use native.Mathlib.Omega.{arith}
-use borrow.Author.Rules.{rules}
 use Rattle.sheet_write_table.proofs.write_types.Given as goal
 
 abbrev pub invariant-loop-i : goal.invariant-loop-i

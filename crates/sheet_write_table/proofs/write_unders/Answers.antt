@@ -1,10 +1,6 @@
 use Rattle.sheet_write_table.proofs.Laws.{under_next, unders-all, unders-none}
 use Rattle.text_write.proofs.Laws.{lines_none, lines_rest, lines_are}
-use Rattle.sheet_write_table.specs.Parts.{under_lines}
-use Rattle.text_write.specs.Fill.{Lined}
-use Prim.Native.Nat.{◌-◌, ◌*◌, ◌≤◌}
 use native.Mathlib.Omega.{arith}
-use borrow.Author.Rules.{rules}
 use Rattle.sheet_write_table.proofs.write_unders.Goals as goal
 
 pub loop-i-init : goal.loop-i-init

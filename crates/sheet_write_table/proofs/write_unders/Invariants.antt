@@ -1,11 +1,7 @@
 -- The loop has written the lines of the first i categories, and one more goes into the rest of the buffer (`lines_rest`, `under_next`).
-use Rattle.sheet_write_table.proofs.Laws.{under_next, unders-all, unders-none}
-use Rattle.text_write.proofs.Laws.{lines_none, lines_rest, lines_are}
 use Rattle.sheet_write_table.specs.Parts.{under_lines}
 use Rattle.text_write.specs.Fill.{Lined}
 use Prim.Native.Nat.{◌-◌, ◌*◌, ◌≤◌}
-use native.Mathlib.Omega.{arith}
-use borrow.Author.Rules.{rules}
 use Rattle.sheet_write_table.proofs.write_unders.Given as goal
 
 abbrev pub invariant-loop-i : goal.invariant-loop-i

@@ -1,12 +1,10 @@
 use mathlib.Core.Bool.{not}
 use mathlib.Core.Path.{◌≡◌, ap, sym, ◌∙◌}
-use Prim.Native.Nat.{◌-◌, ◌≤◌}
 use native.Mathlib.Omega.{arith}
 use lib.ListN.{length, get_or}
 use borrow.Author.Rules.{rules}
-use Rattle.table_record.specs.Store.{types_in, raw_method}
-use Rattle.table_check_links.specs.Parts.{each_from}
-use Rattle.table_check.specs.Parts.{stands_as, args_accepted}
+use Rattle.table_record.specs.Store.{types_in}
+use Rattle.table_check.specs.Parts.{stands_as}
 use Rattle.table_check_links.proofs.Steps.{refused, passed}
 use Rattle.table_check.proofs.Steps.{args-start}
 use Rattle.table_check_links.proofs.Each.{rest-next, rest-broken, rest_end}

@@ -1,16 +1,10 @@
 -- The invariant: the whole test is what is left of it (`rest-next`, `rest-broken`, `rest_end`); `args-start` begins it.
-use mathlib.Core.Path.{◌≡◌, ap, sym, ◌∙◌}
+use mathlib.Core.Path.{◌≡◌}
 use Prim.Native.Nat.{◌-◌, ◌≤◌}
-use native.Mathlib.Omega.{arith}
-use lib.ListN.{length, get_or}
-use borrow.Author.Rules.{rules}
+use lib.ListN.{get_or}
 use Rattle.table_record.specs.Store.{types_in, raw_method}
 use Rattle.table_check_links.specs.Parts.{each_from}
 use Rattle.table_check.specs.Parts.{stands_as, args_accepted}
-use Rattle.table_check_links.proofs.Steps.{refused, passed}
-use Rattle.table_check.proofs.Steps.{args-start}
-use Rattle.table_check_links.proofs.Each.{rest-next, rest-broken, rest_end}
-use Rattle.spec_model.specs.Records.{argument_slots}
 use Rattle.table_check.proofs.args_fit.Given as goal
 
 abbrev pub invariant-loop-i : goal.invariant-loop-i

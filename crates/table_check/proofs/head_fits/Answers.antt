@@ -2,7 +2,6 @@
 use native.Mathlib.Omega.{arith}
 use lib.Dec.{ltb, leb}
 use borrow.Author.Tests.{lt-ltb, le-ltb, lt-leb, le-leb}
-use borrow.Author.Rules.{rules}
 use Rattle.table_check_links.proofs.Steps.{ends, goes}
 use Rattle.table_check.proofs.head_fits.Goals as goal
 

@@ -4,7 +4,6 @@ use Prim.Native.Nat.{ℕ}
 use native.Mathlib.Omega.{arith}
 use lib.Dec.{ltb}
 use borrow.Author.Tests.{lt-ltb, le-ltb}
-use borrow.Author.Rules.{rules}
 use Rattle.table_check_links.proofs.Steps.{holds, leaves, ends, goes}
 use Rattle.table_check.proofs.key_fits.Goals as goal
 

@@ -1,7 +1,6 @@
 -- One law for each return, by the state: `stated-none`, `stated-denied`, `stated-unavail`, `stated-permit`.
 use mathlib.Core.Path.{◌∙◌}
 use native.Mathlib.Omega.{arith}
-use borrow.Author.Rules.{rules}
 use Rattle.table_check.proofs.Steps.{stated-none, stated-denied, stated-unavail, stated-permit}
 use Rattle.table_check.proofs.method_fits.Goals as goal
 

@@ -5,7 +5,6 @@ use mathlib.Core.Path.{◌∙◌}
 use native.Mathlib.Omega.{arith}
 use lib.Dec.{leb}
 use borrow.Author.Tests.{lt-leb, le-leb}
-use borrow.Author.Rules.{rules}
 use Rattle.spec_model.specs.Table.{max_arguments}
 use Rattle.table_record.specs.Store.{types_in, raw_method}
 use Rattle.table_check.specs.Parts.{stands_as, args_accepted}

@@ -1,7 +1,6 @@
 -- Outside it ends at the first test; within it is what `may_stand` says.
 use lib.Dec.{ltb}
 use borrow.Author.Tests.{lt-ltb, le-ltb}
-use borrow.Author.Rules.{rules}
 use Rattle.table_check_links.proofs.Steps.{ends, goes}
 use Rattle.table_check.proofs.stands_in.Goals as goal
 

@@ -2,7 +2,6 @@
 use mathlib.Core.Bool.{not}
 use mathlib.Core.Path.{ap}
 use mathlib.Core.Path.{sym, ◌∙◌}
-use borrow.Author.Rules.{rules}
 use Rattle.table_record.specs.Store.{links_in}
 use Rattle.table_check_links.specs.Parts.{counts_accepted, links_accepted}
 use Rattle.table_check_links.proofs.Steps.{refused, passed, ends, goes}

@@ -4,7 +4,6 @@ use mathlib.Core.Path.{ap, ◌∙◌}
 use Prim.Native.Nat.{ℕ}
 use native.Mathlib.Omega.{arith}
 use lib.ListN.{get_or}
-use borrow.Author.Rules.{rules}
 use Rattle.table_record.specs.Store.{types_in}
 use Rattle.spec_model.specs.Check.{no_raw_type}
 use Rattle.table_check.specs.Parts.{methods_accepted}

@@ -1,15 +1,11 @@
 -- The invariant: the whole test is what is left of it (`rest-next`, `rest-broken`, `rest_end`).
-use mathlib.Core.Path.{◌≡◌, refl, ap, sym, ◌∙◌}
-use Prim.Native.Nat.{ℕ, ◌-◌, ◌≤◌}
-use native.Mathlib.Omega.{arith}
+use mathlib.Core.Path.{◌≡◌}
+use Prim.Native.Nat.{◌-◌, ◌≤◌}
 use lib.ListN.{get_or}
-use borrow.Author.Rules.{rules}
 use Rattle.table_record.specs.Store.{types_in}
 use Rattle.spec_model.specs.Check.{no_raw_type}
 use Rattle.table_check_links.specs.Parts.{each_from}
 use Rattle.table_check.specs.Parts.{type_accepted, types_accepted}
-use Rattle.table_check_links.proofs.Steps.{refused, passed}
-use Rattle.table_check_links.proofs.Each.{rest-next, rest-broken, rest_end}
 use Rattle.table_check.proofs.types_fit.Given as goal
 
 abbrev pub invariant-loop-i : goal.invariant-loop-i

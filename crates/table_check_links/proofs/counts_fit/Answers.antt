@@ -4,7 +4,6 @@ use mathlib.Core.Path.{ap}
 use mathlib.Core.Path.{refl}
 use lib.Dec.{leb}
 use borrow.Author.Tests.{lt-leb, le-leb}
-use borrow.Author.Rules.{rules}
 use Rattle.spec_model.specs.Table.{between, max_subjects, max_methods, max_categories, max_sheet_types}
 use Rattle.table_check_links.proofs.Steps.{refused, passed, ends, goes}
 use Rattle.table_check_links.proofs.counts_fit.Goals as goal

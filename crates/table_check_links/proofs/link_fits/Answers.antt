@@ -1,7 +1,6 @@
 -- One law for each return: `link-count`, `link-high`, `link-two`, `link-one`.
 use mathlib.Core.Bool.{not}
 use mathlib.Core.Path.{ap, ◌∙◌}
-use borrow.Author.Rules.{rules}
 use Rattle.table_check_links.specs.Parts.{link_accepted}
 use Rattle.table_check_links.proofs.Steps.{refused, passed, links-eq, link-count, link-high, link-two, link-one}
 use Rattle.table_check_links.proofs.link_fits.Goals as goal

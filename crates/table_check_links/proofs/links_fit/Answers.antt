@@ -1,9 +1,8 @@
 use mathlib.Core.Bool.{not}
 use mathlib.Core.Path.{◌≡◌, ap, sym, ◌∙◌}
-use Prim.Native.Nat.{ℕ, ◌+◌, ◌-◌, ◌≤◌}
+use Prim.Native.Nat.{ℕ, ◌+◌, ◌-◌}
 use native.Mathlib.Omega.{arith}
 use lib.ListN.{get_or}
-use borrow.Author.Rules.{rules}
 use Rattle.table_record.specs.Store.{links_in}
 use Rattle.spec_model.specs.Check.{no_raw_links}
 use Rattle.table_check_links.specs.Parts.{each_from, link_accepted, links_accepted}

@@ -1,14 +1,10 @@
 -- The invariant: the whole test is what is left of it (`rest-next`, `rest-broken`, `rest_end`).
-use mathlib.Core.Path.{◌≡◌, ap, sym, ◌∙◌}
-use Prim.Native.Nat.{ℕ, ◌+◌, ◌-◌, ◌≤◌}
-use native.Mathlib.Omega.{arith}
+use mathlib.Core.Path.{◌≡◌}
+use Prim.Native.Nat.{◌+◌, ◌-◌, ◌≤◌}
 use lib.ListN.{get_or}
-use borrow.Author.Rules.{rules}
 use Rattle.table_record.specs.Store.{links_in}
 use Rattle.spec_model.specs.Check.{no_raw_links}
 use Rattle.table_check_links.specs.Parts.{each_from, link_accepted, links_accepted}
-use Rattle.table_check_links.proofs.Steps.{refused, passed}
-use Rattle.table_check_links.proofs.Each.{rest-next, rest-broken, rest_end}
 use Rattle.table_check_links.proofs.links_fit.Given as goal
 
 abbrev pub invariant-loop-k : goal.invariant-loop-k

@@ -1,6 +1,5 @@
 -- The head of type i is read from its six bytes, which are where the view has them (`type-in`).
 use mathlib.Core.Path.{ap, sym}
-use borrow.Author.Rules.{rules}
 use Rattle.spec_model.specs.Check.{no_raw_type}
 use Rattle.table_record.specs.Store.{head_of}
 use Rattle.table_record.proofs.Laws.{type-in}

@@ -1,6 +1,5 @@
 -- The links of a category are read from its three bytes, which are where the view has them (`links-in`).
 use mathlib.Core.Path.{sym}
-use borrow.Author.Rules.{rules}
 use Rattle.spec_model.specs.Check.{no_raw_links}
 use Rattle.table_record.proofs.Laws.{links-in}
 use Rattle.table_record.proofs.get_links.Goals as goal

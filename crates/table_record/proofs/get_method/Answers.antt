@@ -1,5 +1,4 @@
 -- Method j of type i is read from its seven bytes, which are where the view has them (`method-read`).
-use borrow.Author.Rules.{rules}
 use Rattle.table_record.proofs.Laws.{method-read}
 use Rattle.table_record.proofs.get_method.Goals as goal
 

@@ -1,15 +1,11 @@
 -- The invariant: the methods so far are those of the record. Rests on `methods-are` and `read_is`.
-use mathlib.Core.Path.{◌≡◌, refl, ◌∙◌}
+use mathlib.Core.Path.{◌≡◌}
 use Prim.Native.Nat.{ℕ, ◌≤◌, ◌<◌, ◌-◌}
-use native.Mathlib.Nat.{not-suc-le-zero}
-use native.Mathlib.Omega.{arith}
-use lib.ListN.{length, get_or, length-set}
-use borrow.Author.Rules.{rules}
+use lib.ListN.{length, get_or}
 use Rattle.spec_model.specs.Check.{no_raw_type, no_raw_method}
 use Rattle.spec_model.specs.Table.{max_methods}
 use Rattle.table_record.specs.Store.{types_in, raw_method}
-use Rattle.table_record.proofs.Laws.{absent, methods-are, methods-length, read_is}
-use Rattle.table_record.proofs.Lists.{set_next}
+use Rattle.table_record.proofs.Laws.{absent}
 use Rattle.table_record.proofs.get_type.Given as goal
 
 abbrev pub invariant-loop-j : goal.invariant-loop-j

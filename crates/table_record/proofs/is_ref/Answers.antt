@@ -1,6 +1,5 @@
 -- The code of the representation (`rep-code`), by the head that was read.
 use mathlib.Core.Path.{ap, ◌∙◌}
-use borrow.Author.Rules.{rules}
 use Rattle.spec_model.specs.Check.{rep_of}
 use Rattle.spec_model.specs.Table.{is_ref}
 use Rattle.table_record.specs.declared.Head.{Head}

@@ -3,7 +3,6 @@ use mathlib.Core.Path.{ap, sym, ◌∙◌}
 use mathlib.Core.Bool.{not}
 use lib.Dec.{eqb}
 use lib.ListN.{get_or}
-use borrow.Author.Rules.{rules}
 use Rattle.spec_model.specs.Check.{no_raw_type}
 use Rattle.table_record.specs.Store.{types_in}
 use Rattle.table_record.specs.declared.Head.{Head}

@@ -1,6 +1,5 @@
 -- Slot k stands k bytes behind the first (`slot_at`), where the view has the method (`method-read`).
 use mathlib.Core.Path.{ap, ◌∙◌}
-use borrow.Author.Rules.{rules}
 use lib.ListN.{get_or}
 use Rattle.spec_model.specs.Check.{RawMethod}
 use Rattle.table_record.proofs.Laws.{method-read, slot_at}

@@ -1,6 +1,5 @@
 -- The first byte of method j of type i is read, where the view has it (`method-read`).
 use mathlib.Core.Path.{ap}
-use borrow.Author.Rules.{rules}
 use Rattle.spec_model.specs.Check.{RawMethod}
 use Rattle.table_record.proofs.Laws.{method-read}
 use Rattle.table_record.proofs.method_state.Goals as goal

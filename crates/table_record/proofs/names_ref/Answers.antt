@@ -1,5 +1,4 @@
 -- Whether a number names a reference type of the first n: not past them, and by its record.
-use borrow.Author.Rules.{rules}
 use Rattle.table_record.proofs.Tables.{no_ref, ref-among}
 use Rattle.table_record.proofs.names_ref.Goals as goal
 

@@ -1,5 +1,4 @@
 -- By cases on the code. Rests on `permit-code`.
-use borrow.Author.Rules.{rules}
 use Rattle.table_record.proofs.Codes.{permit-code}
 use Rattle.table_record.proofs.permits.Goals as goal
 

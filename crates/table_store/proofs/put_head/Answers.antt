@@ -1,5 +1,4 @@
 -- Six stores in a row are one store of the head's bytes (`six`).
-use borrow.Author.Rules.{rules}
 use Rattle.table_record.proofs.Lists.{six}
 use Rattle.table_store.proofs.put_head.Goals as goal
 

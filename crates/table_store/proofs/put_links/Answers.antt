@@ -1,6 +1,5 @@
 -- Three stores in a row are one store of the links' bytes (`three`), which changes one category and no other.
 use Prim.Native.Nat.{◌*◌}
-use borrow.Author.Rules.{rules}
 use Rattle.table_record.proofs.Lists.{three}
 use Rattle.table_record.specs.Layout.{link_size}
 use Rattle.table_store.proofs.put_links.Goals as goal

@@ -1,12 +1,9 @@
 -- The invariant: so many bytes are 0 so far.
-use mathlib.Core.Path.{◌≡◌, refl, ap, ◌∙◌}
-use mathlib.Core.List.{List}
-use Prim.Native.Nat.{ℕ, ◌+◌, ◌≤◌, ◌-◌}
-use native.Mathlib.Omega.{arith}
-use lib.ListN.{replicate, set}
+use mathlib.Core.Path.{◌≡◌}
+use Prim.Native.Nat.{◌≤◌, ◌-◌}
+use lib.ListN.{replicate}
 use lib.Seq.{sets}
 use Rattle.table_record.specs.Layout.{spare_size}
-use Rattle.table_record.proofs.Lists.{run-next}
 use Rattle.table_store.proofs.put_spare.Given as goal
 
 abbrev pub invariant-loop-j : goal.invariant-loop-j

@@ -1,19 +1,14 @@
 -- The invariant: behind head and spare bytes stand the bytes of the methods so far. Rests on `run_more` and `record-parts`.
-use mathlib.Core.List.{List, map}
-use mathlib.Core.Path.{◌≡◌, refl, sym, ap, ◌∙◌}
+use mathlib.Core.List.{map}
+use mathlib.Core.Path.{◌≡◌}
 use Prim.Native.Nat.{ℕ, ◌≤◌, ◌<◌, ◌-◌, ◌*◌, ◌+◌}
-use native.Mathlib.Nat.{not-suc-le-zero}
-use native.Mathlib.Omega.{arith}
-use lib.Seq.{sets, take_all}
-use lib.ListN.{length, get_or, take, length-map, get_or-map}
-use borrow.Author.Count.{below_more}
-use borrow.Author.Rules.{rules}
-use Rattle.spec_model.specs.Check.{RawMethod}
+use lib.Seq.{sets}
+use lib.ListN.{length, get_or, take}
 use Rattle.spec_model.specs.Table.{max_methods}
 use Rattle.spec_model.specs.Records.{argument_slots}
-use Rattle.table_record.specs.Store.{raw_method, raw_of, spare_bytes, method_bytes, methods_bytes}
-use Rattle.table_record.proofs.Laws.{absent, run_more, record-parts}
-use Rattle.table_record.specs.Layout.{type_size, head_numbers, head_size, method_size}
+use Rattle.table_record.specs.Store.{raw_method, methods_bytes}
+use Rattle.table_record.proofs.Laws.{absent}
+use Rattle.table_record.specs.Layout.{type_size, head_size}
 use Rattle.table_store.proofs.put_type.Given as goal
 
 abbrev pub invariant-loop-j : goal.invariant-loop-j

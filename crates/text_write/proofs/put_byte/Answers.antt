@@ -4,7 +4,6 @@ use mathlib.Core.Path.{◌≡◌}
 use lib.ListN.{length}
 use Rattle.text_write.proofs.Laws.{fill-byte, fill-short}
 use native.Mathlib.Omega.{arith}
-use borrow.Author.Rules.{rules}
 use Rattle.text_write.proofs.put_byte.Goals as goal
 
 pub returns-then-buf-eq0 : goal.returns-then-buf-eq0

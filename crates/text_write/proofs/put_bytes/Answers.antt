@@ -1,7 +1,5 @@
-use lib.ListN.{set, get_or, length, take, drop, length-set}
-use mathlib.Core.Path.{◌≡◌, refl, ap, ◌∙◌}
-use mathlib.Core.List.{◌++◌}
-use Prim.Native.Nat.{◌≤◌, ◌-◌}
+use lib.ListN.{set, get_or, length-set}
+use mathlib.Core.Path.{refl, ap, ◌∙◌}
 use Rattle.text_write.proofs.Laws.{fill-short, copy-next, copy-all}
 use native.Mathlib.Omega.{arith}
 use borrow.Author.Rules.{rules}

@@ -1,11 +1,8 @@
 -- The loop has copied the first i bytes, and the rest of the buffer is as it was (`copy-next`, `copy-all`).
-use lib.ListN.{set, get_or, length, take, drop, length-set}
-use mathlib.Core.Path.{◌≡◌, refl, ap, ◌∙◌}
+use lib.ListN.{length, take, drop}
+use mathlib.Core.Path.{◌≡◌}
 use mathlib.Core.List.{◌++◌}
 use Prim.Native.Nat.{◌≤◌, ◌-◌}
-use Rattle.text_write.proofs.Laws.{fill-short, copy-next, copy-all}
-use native.Mathlib.Omega.{arith}
-use borrow.Author.Rules.{rules}
 use Rattle.text_write.proofs.put_bytes.Given as goal
 
 abbrev pub invariant-loop-i : goal.invariant-loop-i

@@ -2,7 +2,6 @@
 use Rattle.text_write.proofs.Laws.{fill-rest}
 use Rattle.spec_sheet.specs.Text.{number_text}
 use native.Mathlib.Omega.{arith}
-use borrow.Author.Rules.{rules}
 use Rattle.text_write.proofs.put_number.Goals as goal
 
 pub returns : goal.returns

@@ -1,7 +1,6 @@
 -- The text of key and number, and LF in the rest of the buffer (`fill-rest`), are the line.
 use Rattle.text_write.proofs.Laws.{fill-rest, ended}
 use native.Mathlib.Omega.{arith}
-use borrow.Author.Rules.{rules}
 use Rattle.text_write.proofs.write_number.Goals as goal
 
 pub returns : goal.returns

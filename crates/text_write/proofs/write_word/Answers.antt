@@ -1,7 +1,6 @@
 -- The fixed bytes, and LF in the rest of the buffer (`fill-rest`), are the line.
 use Rattle.text_write.proofs.Laws.{fill-rest, ended}
 use native.Mathlib.Omega.{arith}
-use borrow.Author.Rules.{rules}
 use Rattle.text_write.proofs.write_word.Goals as goal
 
 pub returns : goal.returns

@@ -3,7 +3,6 @@ use native.Mathlib.Omega.{arith}
 use Rattle.spec_tiny.specs.Tiny.{tiny_text}
 use Rattle.spec_tiny.proofs.Count.{text-size}
 use Rattle.text_write.proofs.Written.{fits-is, refused-is}
-use borrow.Author.Rules.{rules}
 use Rattle.tiny_output.proofs.tiny.Goals as goal
 
 pub returns-then-buf-lt-PRINTED_BYTES : goal.returns-then-buf-lt-PRINTED_BYTES

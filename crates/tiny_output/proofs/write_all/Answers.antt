@@ -1,13 +1,6 @@
-use Rattle.tiny_output.proofs.Laws.{text_to, text-next, text-none, text-all}
-use Rattle.table_record.specs.Store.{types_size}
-use Rattle.spec_tiny.specs.Tiny.{tiny_count}
+use Rattle.tiny_output.proofs.Laws.{text-next, text-none, text-all}
 use Rattle.text_write.proofs.Laws.{fill_none, fill_is, fill-rest}
-use Rattle.text_write.specs.Fill.{Filled}
-use mathlib.Core.Path.{◌≡◌}
-use lib.ListN.{length}
-use Prim.Native.Nat.{◌-◌, ◌*◌, ◌≤◌}
 use native.Mathlib.Omega.{arith}
-use borrow.Author.Rules.{rules}
 use Rattle.tiny_output.proofs.write_all.Goals as goal
 
 pub loop-i-init : goal.loop-i-init

@@ -1,14 +1,11 @@
 -- The loop has written the texts of the first i tables, and one more goes into the rest of the buffer (`fill-rest`, `text-next`).
-use Rattle.tiny_output.proofs.Laws.{text_to, text-next, text-none, text-all}
+use Rattle.tiny_output.proofs.Laws.{text_to}
 use Rattle.table_record.specs.Store.{types_size}
 use Rattle.spec_tiny.specs.Tiny.{tiny_count}
-use Rattle.text_write.proofs.Laws.{fill_none, fill_is, fill-rest}
 use Rattle.text_write.specs.Fill.{Filled}
 use mathlib.Core.Path.{◌≡◌}
 use lib.ListN.{length}
 use Prim.Native.Nat.{◌-◌, ◌*◌, ◌≤◌}
-use native.Mathlib.Omega.{arith}
-use borrow.Author.Rules.{rules}
 use Rattle.tiny_output.proofs.write_all.Given as goal
 
 abbrev pub invariant-loop-i : goal.invariant-loop-i

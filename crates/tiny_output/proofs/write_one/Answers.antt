@@ -4,7 +4,6 @@ use Rattle.spec_sheet.specs.Text.{text}
 use Rattle.table_record.proofs.Laws.{put-length}
 use Rattle.text_write.proofs.Laws.{fill_is}
 use Rattle.tiny_output.proofs.Laws.{tiny-limits, tiny-stored, tiny-short}
-use borrow.Author.Rules.{rules}
 use Rattle.tiny_output.proofs.write_one.Goals as goal
 
 pub put_sheet-requires : goal.put_sheet-requires

@@ -1,6 +1,5 @@
 -- One law for each way through (`choice-1` to `choice-6`).
 use Rattle.tiny_record.proofs.Laws.{choice-1, choice-2, choice-3, choice-4, choice-5, choice-6}
-use borrow.Author.Rules.{rules}
 use Rattle.tiny_record.proofs.choice.Goals as goal
 
 pub returns-then-k-eq0 : goal.returns-then-k-eq0

@@ -1,6 +1,5 @@
 -- Two choices and fourteen empty methods (`made-is`).
 use Rattle.tiny_record.proofs.Laws.{made-is}
-use borrow.Author.Rules.{rules}
 use Rattle.tiny_record.proofs.planned_record.Goals as goal
 
 pub returns : goal.returns

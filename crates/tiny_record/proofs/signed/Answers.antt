@@ -1,6 +1,5 @@
 -- The record by its two narrowed halves (`signed_is`).
 use Rattle.tiny_record.proofs.Laws.{signed_is}
-use borrow.Author.Rules.{rules}
 use Rattle.tiny_record.proofs.signed.Goals as goal
 
 pub returns : goal.returns

@@ -2,7 +2,6 @@
 use mathlib.Core.Path.{ap, ◌∙◌}
 use Rattle.tiny_record.specs.Plan.{plan_raw}
 use Rattle.tiny_record.proofs.Laws.{plan-small, plan-is}
-use borrow.Author.Rules.{rules}
 use Rattle.tiny_record.proofs.type_of.Goals as goal
 
 pub planned_record-requires : goal.planned_record-requires

@@ -1,7 +1,6 @@
 -- A record that holds nothing: sixteen methods as `Method::empty` makes them, and a head of zeros.
 use mathlib.Core.Path.{ap}
 use lib.ListN.{replicate}
-use borrow.Author.Rules.{rules}
 use Rattle.table_record.specs.declared.TypeRec.{TypeRec}
 use Rattle.table_record.specs.declared.Method.{Method}
 use Rattle.spec_model.specs.Table.{max_methods}
