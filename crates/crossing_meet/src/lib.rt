@@ -1,6 +1,7 @@
 // A reference meets the type of a place (X6 to X10): it passes as it is, or gets an adapter in front of the place. The types are lent and may grow; a new
 // adapter is stored among the places. What came of a crossing means is in specs/Crossed.antt.
 #![tactic(auto)]
+
 ghost use Rattle.std.specs.Prelude.{◌≡◌};
 ghost use Rattle.spec_model.specs.Crossing.{adapt};
 ghost use Rattle.spec_model.specs.Relations.{related};

@@ -1,6 +1,7 @@
 // A reference crosses from one static type to another (X): it may pass as it is, be led to the base of its place, or get an adapter in front of its place.
 // The types are lent and may grow; a new adapter is stored among the places. What came of a crossing means is in specs/Crossed.antt of crossing_meet.
 #![tactic(auto)]
+
 ghost use Rattle.std.specs.Prelude.{◌≡◌, true, false, ◌≤◌};
 ghost use Rattle.spec_model.specs.Table.{max_types};
 ghost use Rattle.table_record.specs.Store.{table_in};

@@ -1,6 +1,7 @@
 // The layers of a call, what each has for a value (its target), and a number on its way over them (C9, C14 to C16, A7, A9). Arguments and answers are met by the
 // same functions. What is stored means the model's lists (specs/Targets.antt).
 #![tactic(auto)]
+
 ghost use Rattle.std.specs.Prelude.{◌≡◌, List, ◌∷◌, map, reverse, true, ℕ, suc, ◌≤◌, eqb, pos, negsuc};
 ghost use Rattle.spec_model.specs.Requests.{at_layer, within, pass_layers};
 ghost use Rattle.spec_model.specs.Check.{method_of, answer_of};

@@ -1,6 +1,7 @@
 // Sub, Sup and Closed on any table handed in, by the codes of the three kinds and signed numbers of types. A derivation is no request: the requests derive
 // types as they cross. What comes of it is the definition `derive_handed` in specs/Handed.antt.
 #![tactic(auto)]
+
 ghost use Rattle.std.specs.Prelude.{◌≡◌, true, ◌&&◌, List, ℕ, ◌≤◌, ◌<◌, length};
 ghost use Rattle.spec_model.specs.Restriction.{derived};
 ghost use Rattle.spec_model.specs.Check.{kind_of};

@@ -1,5 +1,6 @@
 // The program `doors`: three lines in, one line out (P27 to P29). `report` takes any bytes and says what is printed, in the words of crate `spec_doors`.
 #![tactic(auto)]
+
 ghost use Rattle.std.specs.Prelude.{◌≡◌, [], ◌∷◌, ◌++◌, ◌≤◌, length, take};
 ghost use Rattle.spec_sheet.specs.Lines.{bytes, split};
 ghost use Rattle.spec_sheet.specs.Text.{number_text};

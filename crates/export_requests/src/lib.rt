@@ -2,6 +2,7 @@
 // the arrays lent to it and its values in the last one; a refusal changes nothing. Their contract is `Handed` (crates/request_results/specs/States.antt). Each
 // puts its operands into a list; `serve_bytes` does the rest for all of them, by the code of the request (U3 to U5).
 #![tactic(auto)]
+
 ghost use Rattle.std.specs.Prelude.{◌≡◌};
 ghost use Rattle.std.proofs.Math.Option.{some};
 ghost use Rattle.spec_model.specs.Requests.{Request, new, move, call, answer};

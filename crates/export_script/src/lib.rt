@@ -1,5 +1,6 @@
 // The C function behind the program `script` (P19, E12): what is printed for any bytes, in any buffer.
 #![tactic(auto)]
+
 ghost use Rattle.std.specs.Prelude.{◌≡◌};
 ghost use Rattle.spec_sheet.specs.Text.{write_text};
 ghost use Rattle.text_write.specs.Written.{WrittenIs};

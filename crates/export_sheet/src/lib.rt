@@ -1,6 +1,7 @@
 // The reader as a C function (E2, E12), in a library of its own: who only asks whether a sheet is accepted waits for no other proof. The table that it stores
 // is three arrays, as in export_table.
 #![tactic(auto)]
+
 ghost use Rattle.std.specs.Prelude.{◌≡◌};
 ghost use Rattle.table_record.specs.Layout.{counts_in};
 ghost use Rattle.spec_sheet.specs.Sheet.{read as read_sheet};

@@ -2,6 +2,7 @@
 // the bytes of its types, those of its links, and five counts in the order of B12; docs/SPEC.md, section B, has the layout. The numbers returned are given by
 // definitions in specs/Codes.antt.
 #![tactic(auto)]
+
 ghost use Rattle.std.specs.Prelude.{◌≡◌, ◌+◌};
 ghost use Rattle.spec_model.specs.Check.{compare_handed};
 ghost use Rattle.table_record.specs.Store.{raw_table};

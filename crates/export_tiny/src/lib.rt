@@ -1,5 +1,6 @@
 // The C function behind the program `tiny` (P26, E12).
 #![tactic(auto)]
+
 ghost use Rattle.spec_sheet.specs.Text.{write_text};
 ghost use Rattle.text_write.specs.Written.{WrittenIs};
 ghost use Rattle.spec_tiny.specs.Tiny.{tiny_text};

@@ -1,6 +1,7 @@
 // The program `pairs`: a sheet's text in, the four relations of every pair of its types out (P16, P17). `report` takes any bytes and says what is printed
 // (specs/Output.antt). Each line is written behind the one before it, in one lent buffer (F2).
 #![tactic(auto)]
+
 ghost use Rattle.std.specs.Prelude.{◌≡◌, ◌≤◌, length, take};
 ghost use Rattle.spec_sheet.specs.Sheet.{malformed};
 ghost use Rattle.text_write.specs.Fill.{Filled, Lined};

@@ -1,6 +1,7 @@
 // What the four requests have in common: their outcomes, the tests of their operands (N1 to N3, M1 to M3, C1, C2, C5, A1, A6), and a reference that becomes a
 // cell. A state goes in by value and comes out by value: where a request is refused, it is the one that went in.
 #![tactic(auto)]
+
 ghost use Rattle.std.specs.Prelude.{◌≡◌, List, ℕ, ◌≤◌, ◌<◌, ℤ, length};
 ghost use Rattle.spec_model.specs.Basics.{names, named};
 ghost use Rattle.spec_model.specs.Requests.{add_cell, held, is_sheet_ref, max_cells};

@@ -2,6 +2,7 @@
 // crosses, and what came of it becomes a cell. A refusal gives back the state that was handed in; of the types that are lent, those that were counted are as
 // they were (Q14).
 #![tactic(auto)]
+
 ghost use Rattle.std.specs.Prelude.{◌≡◌, ◌<◌};
 ghost use Rattle.spec_model.specs.Requests.{new_request, move_request};
 ghost use Rattle.spec_model.specs.Crossing.{max_places};

@@ -1,5 +1,6 @@
 // Words of a run: where a request stands in a list of them (U2, U7), and an outcome as four (U8). Nothing is served here.
 #![tactic(auto)]
+
 ghost use Rattle.std.specs.Prelude.{◌≡◌, [], ◌∷◌, ◌+◌, ◌≤◌, ◌<◌, pos, length};
 ghost use Rattle.std.proofs.lemmas.List.Edits.{sets};
 ghost use Rattle.request_common.specs.Outcome.{outcome_of};

@@ -1,5 +1,6 @@
 // The line that `script` prints for what a request came to (P12, P13). Each piece is written behind the one before it, in one lent buffer (F2).
 #![tactic(auto)]
+
 ghost use Rattle.std.specs.Prelude.{◌≡◌, [], ◌∷◌, ◌≤◌, nat_abs};
 ghost use Rattle.spec_model.specs.Requests.{pair, number, got};
 ghost use Rattle.request_common.specs.Served.{outcome_of};

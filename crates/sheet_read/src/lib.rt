@@ -2,6 +2,7 @@
 // What comes of it is crate `spec_sheet`'s definition `read`, and every byte of it is determined by it (specs/Result.antt, `sheet_for`).
 // Lines are found by crate `text_read` and read by `sheet_read_line`, the types by `sheet_read_type`; here they are put together.
 #![tactic(auto)]
+
 ghost use Rattle.std.specs.Prelude.{◌≡◌, List, [], ℕ, ◌≤◌, length, drop};
 ghost use Rattle.spec_model.specs.Table.{Table, max_methods, max_categories, max_sheet_types, max_types};
 ghost use Rattle.table_record.specs.Store.{types_in, links_in, types_to, empty_types, empty_links};

@@ -1,6 +1,7 @@
 // The types of a sheet (docs/SPEC.md S25): the lines of each are read as the record of the type, and it is stored in lent bytes by crate `table_store`.
 // What comes of the lines is crate `spec_sheet`'s definition `one_type`. One line is read by `text_read`, `sheet_read_line` or `sheet_read_method`.
 #![tactic(auto)]
+
 ghost use Rattle.std.specs.Prelude.{◌≡◌, false, [], map, ℕ, ◌≤◌, ◌<◌, length, take, drop};
 ghost use Rattle.spec_model.specs.Table.{max_methods, max_categories, max_sheet_types};
 ghost use Rattle.spec_model.specs.Check.{rep_of, type_of};

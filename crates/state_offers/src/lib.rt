@@ -1,6 +1,7 @@
 // Whether a cell of a state offers a chain of methods (L15 to L18, E11): so that demand 3 can be watched on what runs. What comes of it is the definition
 // `offers_handed` in specs/Chained.antt.
 #![tactic(auto)]
+
 ghost use Rattle.std.specs.Prelude.{◌≡◌, List, ℕ};
 ghost use Rattle.table_record.specs.Limits.{Limits};
 ghost use Rattle.table_record.specs.Store.{table_in};
