@@ -1,6 +1,7 @@
 // A reference on its way over the layers of a call (C11, C13, C15, A8, A9): it crosses to each target in turn, the next one from where the last one left it.
 // Arguments and answers are carried by the same functions.
 #![tactic(auto)]
+
 ghost use Rattle.std.specs.Prelude.{◌≡◌, true, ◌≤◌, eqb};
 ghost use Rattle.spec_model.specs.Requests.{cross_layers};
 ghost use Rattle.spec_model.specs.Check.{answer_of};

@@ -1,5 +1,6 @@
 // The request answer as a step on a sound state (A1 to A13). A refusal gives back the state that was handed in.
 #![tactic(auto)]
+
 ghost use Rattle.std.specs.Prelude.{◌≡◌, List, true, ℕ, ◌≤◌, ◌<◌, ℤ};
 ghost use Rattle.spec_model.specs.Basics.{ok, named};
 ghost use Rattle.spec_model.specs.Requests.{Result, got, due_for, answers_met, give, with_answer, answer_request, max_calls};

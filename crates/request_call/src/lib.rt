@@ -1,6 +1,7 @@
 // The request call as a step on a sound state (C1 to C20). A refusal gives back the state that was handed in, so what earlier arguments made on the way is gone
 // (C20).
 #![tactic(auto)]
+
 ghost use Rattle.std.specs.Prelude.{◌≡◌, not, ◌||◌, List, ℕ, ◌≤◌, ◌<◌, ℤ, get_or};
 ghost use Rattle.spec_model.specs.Basics.{ok, named};
 ghost use Rattle.spec_model.specs.Table.{type_at, method_at, is_ref};

@@ -1,6 +1,7 @@
 // What comes back of a request at the C boundary: the number returned, the values, and the new state in the arrays that were lent; a refusal stores nothing
 // (Q14, E12). What each hands out is given by definitions in specs/States.antt; that it is all of a request's contract is proved in proofs/Handing.antt.
 #![tactic(auto)]
+
 ghost use Rattle.std.specs.Prelude.{◌≡◌, true, false, List, [], ◌∷◌, ℕ, ◌<◌, pos};
 ghost use Rattle.state_record.specs.Whole.{whole};
 ghost use Rattle.state_bytes.specs.Flat.{flat};

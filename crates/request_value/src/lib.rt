@@ -1,6 +1,7 @@
 // What the arguments of a call and a reference that is answered share: each meets its layers by the state as it stands, and a reference becomes a cell (C8 to
 // C11, C17; A8, A10).
 #![tactic(auto)]
+
 ghost use Rattle.std.specs.Prelude.{◌≡◌, ℕ, ◌≤◌, ◌<◌, pos, get_or};
 ghost use Rattle.spec_model.specs.Basics.{named};
 ghost use Rattle.spec_model.specs.Requests.{no_cell, send, send_arguments, max_cells};

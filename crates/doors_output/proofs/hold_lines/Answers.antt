@@ -2,7 +2,6 @@
 use mathlib.Core.Path.{sym, ◌∙◌}
 use native.Mathlib.Omega.{arith}
 use lib.Seq.{length-take-le}
-use borrow.Author.Rules.{rules}
 use Rattle.doors_output.proofs.Laws.{wrong-form, many-marks, many-arrivals, lists-held}
 use Rattle.doors_output.proofs.hold_lines.Goals as goal
 
@@ -17,12 +16,12 @@ returns-then-a-gt-TIMES c = many-arrivals _ _ _ _ c.read_input-x.ensures.is _ _ 
 
 pub slice_bounds-hold-end : goal.slice_bounds-hold-end
 slice_bounds-hold-end c =
-    sym (length-take-le _ c.read_input-x.new.arrivals.0 (omega (arith, c.if-m-gt-TIMES.false, c.read_input-x.ensures.sizes.0)))
+    sym (length-take-le _ c.read_input-x.new.marks (omega (arith, c.if-m-gt-TIMES.false, c.read_input-x.ensures.sizes.0)))
 
 pub slice_bounds-hold-end-2 : goal.slice_bounds-hold-end-2
 slice_bounds-hold-end-2 c =
-    sym (length-take-le _ c.read_input-x.new.arrivals.1.0 (omega (arith, c.if-a-gt-TIMES.false, c.read_input-x.ensures.sizes.1)))
+    sym (length-take-le _ c.read_input-x.new.arrivals (omega (arith, c.if-a-gt-TIMES.false, c.read_input-x.ensures.sizes.1)))
 
 pub returns : goal.returns
 returns c =
-    c.hold.ensures ∙ lists-held _ _ _ _ (c).read_input-x.ensures.0 _ _ _ c.in-Right.is c.if-m-gt-TIMES.false c.if-a-gt-TIMES.false
+    c.hold.ensures ∙ lists-held _ _ _ _ c.read_input-x.ensures.is _ _ _ c.in-Right.is c.if-m-gt-TIMES.false c.if-a-gt-TIMES.false

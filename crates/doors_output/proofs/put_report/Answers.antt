@@ -1,6 +1,5 @@
 -- The output by the two cases of an input, too long or not, as the definition has them.
 use native.Mathlib.Omega.{arith}
-use borrow.Author.Rules.{rules}
 use Rattle.text_write.proofs.Laws.{fill_is}
 use Rattle.doors_output.proofs.Laws.{long-prints, held-prints}
 use Rattle.doors_output.proofs.put_report.Goals as goal

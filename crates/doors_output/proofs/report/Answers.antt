@@ -1,6 +1,5 @@
 -- The text stands in front of a buffer that has room for it, so its first bytes are the definition's output (`printed`).
 use native.Mathlib.Omega.{arith}
-use borrow.Author.Rules.{rules}
 use Rattle.text_write.proofs.Laws.{printed}
 use Rattle.doors_output.proofs.report.Goals as goal
 

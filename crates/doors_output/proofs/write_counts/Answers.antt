@@ -1,6 +1,5 @@
 -- The unpaired ones stand in the rest behind the pairs (`line-rest`).
 use native.Mathlib.Omega.{arith}
-use borrow.Author.Rules.{rules}
 use Rattle.spec_doors.specs.Output.{held_text}
 use Rattle.text_write.proofs.Laws.{line-rest}
 use Rattle.doors_output.proofs.write_counts.Goals as goal

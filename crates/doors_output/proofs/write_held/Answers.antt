@@ -2,7 +2,6 @@
 use mathlib.Core.Path.{ap, sym}
 use mathlib.Core.List.{[], ◌∷◌}
 use native.Mathlib.Omega.{arith}
-use borrow.Author.Rules.{rules}
 use Rattle.spec_doors.specs.Output.{held_text}
 use Rattle.doors_hold.specs.Result.{held_of}
 use Rattle.text_write.proofs.Laws.{lines_are}

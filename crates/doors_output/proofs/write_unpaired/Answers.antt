@@ -1,6 +1,5 @@
 -- The second count stands in the rest behind the first (`line-rest`).
 use native.Mathlib.Omega.{arith}
-use borrow.Author.Rules.{rules}
 use Rattle.text_write.proofs.Laws.{line-rest}
 use Rattle.doors_output.proofs.write_unpaired.Goals as goal
 

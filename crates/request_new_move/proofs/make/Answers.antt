@@ -1,5 +1,4 @@
 -- The new object is one place more, behind all others, so the state stays sound (`made`).
-use borrow.Author.Rules.{rules}
 use Rattle.request_new_move.proofs.Laws.{made}
 use Rattle.request_new_move.proofs.make.Goals as goal
 

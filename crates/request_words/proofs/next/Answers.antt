@@ -1,7 +1,6 @@
 -- Where the next request begins: behind as many operands as the words say, or at the end where fewer are left.
 use Rattle.request_words.proofs.Words.{next-none, next-is}
 use native.Mathlib.Omega.{arith}
-use borrow.Author.Rules.{rules}
 use Rattle.request_words.proofs.next.Goals as goal
 
 pub returns-then-left-n : goal.returns-then-left-n

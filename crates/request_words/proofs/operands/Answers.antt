@@ -15,5 +15,5 @@ returns-then-left-eq0 c = let a = c.args in count_none a.words.now a.at c.requir
 pub returns : goal.returns
 returns c =
     let a = c.args in
-    let f : SFits w64 (get_or a.words.now (a.at + 1) (pos 0)) = record { sfits = c.n.given } in
+    let f : SFits w64 (get_or a.words.now (a.at + 1) (pos 0)) = search rules in
     rw (to_z-of_z f) at c.index_of.ensures

@@ -4,7 +4,6 @@ use lib.IntN.{ℤ}
 use mir.Facts.{to_z-of_z}
 use mir.Syntax.{w64}
 use mir.Val.{to_z, of_z}
-use borrow.Author.Rules.{rules}
 use Rattle.request_words.proofs.Words.{four, room-second, room-third, room-fourth}
 use Rattle.request_words.proofs.put_words.Goals as goal
 

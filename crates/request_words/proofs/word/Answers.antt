@@ -6,7 +6,6 @@ use lib.IntN.{pos}
 use mir.Facts.{to_z-of_z}
 use mir.Syntax.{w64}
 use mir.Val.{to_z, SFits}
-use borrow.Author.Rules.{rules}
 use Rattle.request_words.proofs.word.Goals as goal
 
 signed : (n : ℕ) → n < 65536 → to_z w64 n ≡ pos n

@@ -6,7 +6,6 @@ use mathlib.Core.Path.{ap, ◌∙◌}
 use mir.Facts.{to_z-of_z}
 use Rattle.script_write_outcome.proofs.Laws.{integer-negative, integer-positive}
 use native.Mathlib.Omega.{arith}
-use borrow.Author.Rules.{rules}
 use Rattle.script_write_outcome.proofs.put_integer.Goals as goal
 
 pub returns-then-v-lt0 : goal.returns-then-v-lt0
@@ -17,7 +16,7 @@ returns-then-v-lt0 c =
     let put_byte = c.put_byte-a.ensures in
     let put-decimal = c.put_decimal.ensures in
     let t = integer-negative a.args.v _ (rw e at c.if-v-lt0.true) m in
-    record { is = fill_is t (fill-rest put_byte c.least-k.ensures.0 put-decimal.0); few = omega (arith, put_byte.said, put-decimal.1) }
+    record { is = fill_is t (fill-rest put_byte c.least-k.ensures.0 put-decimal.is); few = omega (arith, put_byte.said, put-decimal.few) }
 
 pub returns : goal.returns
 returns c =
@@ -25,4 +24,4 @@ returns c =
     let e = to_z-of_z a.ranges.v in
     let m = c.magnitude-n.ensures ∙ ap nat_abs e in
     let put-decimal = c.put_decimal-2.ensures in
-    record { is = fill_is (integer-positive a.args.v _ (rw e at c.if-v-lt0.false) m) put-decimal.0; few = omega (arith, put-decimal.1) }
+    record { is = fill_is (integer-positive a.args.v _ (rw e at c.if-v-lt0.false) m) put-decimal.is; few = omega (arith, put-decimal.few) }

@@ -2,7 +2,6 @@
 use Rattle.script_write_outcome.specs.Outcomes.{outcome_text}
 use Rattle.text_write.proofs.Laws.{line-rest}
 use native.Mathlib.Omega.{arith}
-use borrow.Author.Rules.{rules}
 use Rattle.script_write_outcome.proofs.write_pair.Goals as goal
 
 pub returns : goal.returns
@@ -10,4 +9,4 @@ unfolding outcome_text
 returns c =
     let n = c.put_number-a.ensures in
     let w = c.write_number.ensures in
-    record { is = line-rest n.0 c.least-k.ensures.0 w.0; few = omega (arith, n.1, w.1) }
+    record { is = line-rest n.is c.least-k.ensures.0 w.is; few = omega (arith, n.few, w.few) }

@@ -1,0 +1,54 @@
+-- A reference must be held and crosses; a number passes.
+use mir.Facts.{to_z-of_z}
+use mathlib.Core.Path.{refl, sym, ap, ◌∙◌}
+use native.Mathlib.Omega.{arith}
+use lib.IntN.{ℤ}
+use Rattle.state_record.specs.Whole.{whole}
+use Rattle.state_record.proofs.Kept.{sound-few}
+use Rattle.request_common.specs.Served.{done}
+use Rattle.spec_model.specs.Requests.{number, got}
+use Rattle.crossing_targets.specs.Targets.{targets_in}
+use Rattle.request_answer.proofs.Laws.{value-wrong-values, value-reference, number-refused, number-answers}
+use Rattle.request_answer.proofs.give_value.Goals as goal
+
+pub answers_met-targets-requires : goal.answers_met-targets-requires
+answers_met-targets-requires c = c.requires
+
+pub names_ref-requires : goal.names_ref-requires
+names_ref-requires c = c.requires.0.checked.limits.types
+
+pub is_held-requires : goal.is_held-requires
+is_held-requires c = c.requires.0.cell_count
+
+pub returns-then-not-is_held : goal.returns-then-not-is_held
+returns-then-not-is_held c = λ subject w. let a = c.args in let s = whole a.types.now a.s in
+    value-wrong-values s c.requires.0 subject a.j a.x a.c c.requires.1 a.a a.v (targets_in c.answers_met-targets.result) c.answers_met-targets.ensures.0 c.names_ref.result c.names_ref.ensures c.if-names_ref.true
+    (sym (rw (to_z-of_z c.ranges.v) at (c.is_held.ensures s subject refl w)) ∙ c.if-not-is_held.true) (done a.types.now c.refused.result) (ap (done a.types.now) c.refused.ensures)
+
+pub give_reference-requires : goal.give_reference-requires
+give_reference-requires c = let h = c.requires in
+    (h.0, h.1.number, omega (arith, h.1.place), omega (arith, h.1.ty), c.wide-caller.ensures.1, c.answers_met-targets.ensures.1)
+
+pub returns-then-names_ref : goal.returns-then-names_ref
+returns-then-names_ref c = λ subject w. let a = c.args in let s = whole a.types.now a.s in
+    value-reference s c.requires.0 subject a.j a.x a.c c.requires.1 a.a a.v (targets_in c.answers_met-targets.result) c.answers_met-targets.ensures.0 c.names_ref.result c.names_ref.ensures c.if-names_ref.true
+    (sym (rw (to_z-of_z c.ranges.v) at (c.is_held.ensures s subject refl w)) ∙ c.if-not-is_held.false) _ c.wide-caller.ensures.0
+    (done c.give_reference.new.types c.give_reference.result) (rw (to_z-of_z c.ranges.v) at c.give_reference.ensures)
+
+pub pass-e-requires : goal.pass-e-requires
+pass-e-requires c = (c.requires.0.checked.limits, c.answers_met-targets.ensures.1)
+
+pub returns-then-e-ne0 : goal.returns-then-e-ne0
+returns-then-e-ne0 c = λ subject w. let a = c.args in let s = whole a.types.now a.s in
+    number-refused s c.requires.0 subject a.j a.x a.c c.requires.1 a.a a.v (targets_in c.answers_met-targets.result) c.answers_met-targets.ensures.0 c.names_ref.result c.names_ref.ensures c.if-names_ref.false
+    c.pass-e.result (rw (to_z-of_z c.ranges.v) at c.pass-e.ensures) c.if-e-ne0.true
+    (done a.types.now c.refused-then-e-ne0.result) (ap (done a.types.now) c.refused-then-e-ne0.ensures)
+
+pub answered-requires : goal.answered-requires
+answered-requires c = (c.requires.1.number, sound-few _ c.requires.0, refl)
+
+pub returns : goal.returns
+returns c = λ subject w. let a = c.args in let s = whole a.types.now a.s in
+    number-answers s c.requires.0 subject a.j a.x a.c c.requires.1 a.a a.v (targets_in c.answers_met-targets.result) c.answers_met-targets.ensures.0 c.names_ref.result c.names_ref.ensures c.if-names_ref.false
+    c.pass-e.result (rw (to_z-of_z c.ranges.v) at c.pass-e.ensures) c.if-e-ne0.false (done a.types.now c.answered.result)
+    (c.answered.ensures a.types.now c.requires.0 (number a.v) (ap (λ (z : ℤ). got (number z)) (to_z-of_z c.ranges.v)))
