@@ -146,7 +146,79 @@ fn search_in(
     true
 }
 
-// The same, in an array that is long enough for the table and no longer than it need be: to clear a long one takes more than most searches do.
+// The same in an array for few types. Each array has a function of its own, which stays one, so that only one of them is on the stack at a time.
+#[inline(never)]
+fn search_few(
+    b: &[u8; TYPE_BYTES],
+    l: &[u8; LINK_BYTES],
+    c: Counts,
+    k: Relation,
+    square: &[[bool; 4]; 4],
+    t: usize,
+    s: usize,
+) -> bool
+    requires { Says (relation_of k) square.now × Checked l.now c × (t < c.types) × (s < c.types) × (c.types ≤ 16) }
+    ensures { result ≡ related (relation_of k) (table_in b.now l.now c) t s }
+{
+    let mut few = [0u16; FEW_PAIRS];
+    search_in(b, l, &mut few, c, k, square, t, s)
+}
+
+// In one for some types.
+#[inline(never)]
+fn search_some(
+    b: &[u8; TYPE_BYTES],
+    l: &[u8; LINK_BYTES],
+    c: Counts,
+    k: Relation,
+    square: &[[bool; 4]; 4],
+    t: usize,
+    s: usize,
+) -> bool
+    requires { Says (relation_of k) square.now × Checked l.now c × (t < c.types) × (s < c.types) × (c.types ≤ 64) }
+    ensures { result ≡ related (relation_of k) (table_in b.now l.now c) t s }
+{
+    let mut some = [0u16; SOME_PAIRS];
+    search_in(b, l, &mut some, c, k, square, t, s)
+}
+
+// In one for many types.
+#[inline(never)]
+fn search_many(
+    b: &[u8; TYPE_BYTES],
+    l: &[u8; LINK_BYTES],
+    c: Counts,
+    k: Relation,
+    square: &[[bool; 4]; 4],
+    t: usize,
+    s: usize,
+) -> bool
+    requires { Says (relation_of k) square.now × Checked l.now c × (t < c.types) × (s < c.types) × (c.types ≤ 80) }
+    ensures { result ≡ related (relation_of k) (table_in b.now l.now c) t s }
+{
+    let mut many = [0u16; MANY_PAIRS];
+    search_in(b, l, &mut many, c, k, square, t, s)
+}
+
+// In one for all types.
+#[inline(never)]
+fn search_all(
+    b: &[u8; TYPE_BYTES],
+    l: &[u8; LINK_BYTES],
+    c: Counts,
+    k: Relation,
+    square: &[[bool; 4]; 4],
+    t: usize,
+    s: usize,
+) -> bool
+    requires { Says (relation_of k) square.now × Checked l.now c × (t < c.types) × (s < c.types) }
+    ensures { result ≡ related (relation_of k) (table_in b.now l.now c) t s }
+{
+    let mut all = [0u16; PAIRS];
+    search_in(b, l, &mut all, c, k, square, t, s)
+}
+
+// In an array that is long enough for the table and no longer than it need be: to clear a long one takes more than most searches do.
 fn search(
     b: &[u8; TYPE_BYTES],
     l: &[u8; LINK_BYTES],
@@ -160,19 +232,15 @@ fn search(
     ensures { result ≡ related (relation_of k) (table_in b.now l.now c) t s }
 {
     if c.types <= FEW {
-        let mut few = [0u16; FEW_PAIRS];
-        return search_in(b, l, &mut few, c, k, square, t, s);
+        return search_few(b, l, c, k, square, t, s);
     }
     if c.types <= SOME {
-        let mut some = [0u16; SOME_PAIRS];
-        return search_in(b, l, &mut some, c, k, square, t, s);
+        return search_some(b, l, c, k, square, t, s);
     }
     if c.types <= MANY {
-        let mut many = [0u16; MANY_PAIRS];
-        return search_in(b, l, &mut many, c, k, square, t, s);
+        return search_many(b, l, c, k, square, t, s);
     }
-    let mut all = [0u16; PAIRS];
-    search_in(b, l, &mut all, c, k, square, t, s)
+    search_all(b, l, c, k, square, t, s)
 }
 
 // Whether S is a subtype of T, or, in the other relations, whether T is related from S.

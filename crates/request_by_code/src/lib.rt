@@ -1,6 +1,7 @@
 // A request by its code and operands (U2 to U6), which the run's words, the script's lines and the C functions of single requests come down to. What it comes
 // to is the definition `serve_asked` in specs/Coded.antt.
 #![tactic(auto)]
+
 ghost use Rattle.state_record.specs.Whole.{whole};
 ghost use Rattle.state_record.specs.View.{system_in};
 ghost use Rattle.state_record.specs.Sound.{Sound};

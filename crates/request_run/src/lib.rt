@@ -1,6 +1,7 @@
 // A run (U): the requests in a list of words, one after the other. What comes of it is the definition `run_handed` in specs/Requested.antt, the model's run of
 // those that are requests; the state is checked once, and then each step leaves what the next one needs.
 #![tactic(auto)]
+
 ghost use Rattle.std.specs.Prelude.{◌≡◌, cond, ◌||◌, ◌<◌, length};
 ghost use Rattle.spec_model.specs.Basics.{ok};
 ghost use Rattle.state_record.specs.Whole.{whole};

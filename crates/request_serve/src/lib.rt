@@ -1,6 +1,7 @@
 // A request on a state that is handed in (Q13 to Q15), by its code and operands (U2 to U6): the entry point of a caller who keeps the state himself. It takes
 // any state and any numbers: 2 where the state does not pass, before all else; then the step that the run and the script take too.
 #![tactic(auto)]
+
 ghost use Rattle.std.specs.Prelude.{◌≡◌, true, length};
 ghost use Rattle.spec_model.specs.Check.{system_accepted};
 ghost use Rattle.spec_model.specs.Coded.{by_code};

@@ -2,6 +2,7 @@
 // (specs/Output.antt).
 // Each line is written behind the one before it, in one lent buffer (F2).
 #![tactic(auto)]
+
 ghost use Rattle.std.specs.Prelude.{◌≡◌, cond, List, [], ◌∷◌, ◌+◌, ◌≤◌, ◌<◌, length};
 ghost use Rattle.std.proofs.Math.Option.{Option};
 ghost use Rattle.spec_model.specs.Requests.{Request};

@@ -1,10 +1,7 @@
-use Prim.Native.Nat.{◌-◌}
 use native.Mathlib.Omega.{arith}
 use borrow.Author.Rules.{rules}
-use lib.ListN.{length}
-use mathlib.Core.Path.{◌≡◌, refl}
-use Rattle.crossing_layers.proofs.Carrying.{Goes, goes-starts, goes-ready, goes-ends, goes-stops, goes-next}
-use Rattle.crossing_targets.specs.Targets.{max_layers}
+use mathlib.Core.Path.{refl}
+use Rattle.crossing_layers.proofs.Carrying.{goes-starts, goes-ready, goes-ends, goes-stops, goes-next}
 use Rattle.crossing_layers.proofs.carry.Goals as goal
 
 pub loop-i-init : goal.loop-i-init

@@ -1,11 +1,6 @@
 -- The invariant is the rest: all targets are met as those from i on, by the reference as it has become.
 use Prim.Native.Nat.{◌-◌}
-use native.Mathlib.Omega.{arith}
-use borrow.Author.Rules.{rules}
-use lib.ListN.{length}
-use mathlib.Core.Path.{◌≡◌, refl}
-use Rattle.crossing_layers.proofs.Carrying.{Goes, goes-starts, goes-ready, goes-ends, goes-stops, goes-next}
-use Rattle.crossing_targets.specs.Targets.{max_layers}
+use Rattle.crossing_layers.proofs.Carrying.{Goes}
 use Rattle.crossing_layers.proofs.carry.Given as goal
 
 abbrev pub invariant-loop-i : goal.invariant-loop-i

@@ -1,6 +1,5 @@
 -- No target, or what came of the crossing, its refusal numbered by the layer.
 use mathlib.Core.Path.{refl}
-use borrow.Author.Rules.{rules}
 use Rattle.crossing_layers.proofs.Carrying.{one-ready, one_none, one-crosses}
 use Rattle.crossing_layers.proofs.carry_one.Goals as goal
 

@@ -1,6 +1,5 @@
 -- The reference leads to the place that is named, or to the adapter that is stored as the next place.
 use mathlib.Core.Path.{sym, ap, subst, ◌∙◌}
-use borrow.Author.Rules.{rules}
 use Rattle.state_record.specs.View.{places_in}
 use Rattle.crossing_meet.specs.declared.Landing.{Landing}
 use Rattle.crossing_meet.specs.Crossed.{landed, places_with, Room}

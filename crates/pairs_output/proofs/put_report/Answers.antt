@@ -5,7 +5,6 @@ use Rattle.pairs_write_lines.specs.Parts.{code_lines}
 use Rattle.pairs_output.proofs.Whole.{sheet-checked, sheet-few, accepted-prints, refused-prints, long-prints}
 use Rattle.text_write.proofs.Laws.{fill_is}
 use native.Mathlib.Omega.{arith}
-use borrow.Author.Rules.{rules}
 use Rattle.pairs_output.proofs.put_report.Goals as goal
 
 pub returns-then-s-gt-INPUT_BYTES : goal.returns-then-s-gt-INPUT_BYTES

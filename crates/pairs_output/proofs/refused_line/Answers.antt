@@ -2,7 +2,6 @@
 use Rattle.pairs_output.specs.Output.{result_lines}
 use Rattle.text_write.proofs.Laws.{line-rest}
 use native.Mathlib.Omega.{arith}
-use borrow.Author.Rules.{rules}
 use Rattle.pairs_output.proofs.refused_line.Goals as goal
 
 pub returns : goal.returns

@@ -1,7 +1,6 @@
 -- The text stands in front of a buffer that has room for it, so its first bytes are the definition's output (`printed`).
 use Rattle.text_write.proofs.Laws.{printed}
 use native.Mathlib.Omega.{arith}
-use borrow.Author.Rules.{rules}
 use Rattle.pairs_output.proofs.report.Goals as goal
 
 pub returns : goal.returns

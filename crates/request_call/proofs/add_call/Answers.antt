@@ -1,5 +1,4 @@
 -- The record added is the call asked for.
-use borrow.Author.Rules.{rules}
 use Rattle.state_record.specs.Whole.{whole}
 use Rattle.request_call.proofs.Calling.{call-eq, call-added}
 use Rattle.request_call.proofs.add_call.Goals as goal

@@ -1,9 +1,6 @@
 -- A number is not looked at; a reference is one that is held.
-use mathlib.Core.Bool.{not}
-use mathlib.Core.Path.{ap}
 use mir.Facts.{to_z-of_z}
 use mathlib.Core.Path.{refl}
-use borrow.Author.Tests.{not-true, not-false}
 use Rattle.spec_model.specs.Requests.{held}
 use Rattle.state_record.specs.View.{system_in}
 use Rattle.request_call.proofs.Laws.{number-held, reference-held}

@@ -1,20 +1,15 @@
-use mathlib.Core.Bool.{not}
-use mathlib.Core.Path.{ap}
 use mir.Syntax.{w64}
 use mir.Val.{SFits}
 use mir.Facts.{to_z-of_z}
-use mathlib.Core.Path.{◌≡◌, refl}
-use Prim.Native.Nat.{◌-◌, ◌≤◌}
+use mathlib.Core.Path.{refl}
 use native.Mathlib.Omega.{arith}
-use lib.ListN.{length, get_or}
-use lib.IntN.{ℤ, pos}
-use borrow.Author.Tests.{not-true, not-false}
+use lib.ListN.{get_or}
+use lib.IntN.{pos}
 use borrow.Author.Rules.{rules}
 use Rattle.state_record.specs.Whole.{whole}
-use Rattle.spec_model.specs.Basics.{named}
 use Rattle.state_record.specs.View.{system_in}
 use Rattle.request_value.proofs.Laws.{none_left, some_left, value-next}
-use Rattle.request_call.proofs.Laws.{HeldRest, held-over, held-fails, held_next, held_whole}
+use Rattle.request_call.proofs.Laws.{held-over, held-fails, held_next, held_whole}
 use Rattle.request_value.specs.Sent.{arguments_of}
 use Rattle.request_call.proofs.arguments_held.Goals as goal
 

@@ -1,18 +1,12 @@
 -- The invariant is the rest: all values stand the test as those from i on.
-use mir.Syntax.{w64}
-use mir.Facts.{to_z-of_z}
-use mathlib.Core.Path.{◌≡◌, refl}
+use mathlib.Core.Path.{◌≡◌}
 use Prim.Native.Nat.{◌-◌, ◌≤◌}
-use native.Mathlib.Omega.{arith}
-use lib.ListN.{length, get_or}
-use lib.IntN.{ℤ, pos}
-use borrow.Author.Tests.{not-true, not-false}
-use borrow.Author.Rules.{rules}
+use lib.ListN.{length}
+use lib.IntN.{ℤ}
 use Rattle.state_record.specs.Whole.{whole}
 use Rattle.spec_model.specs.Basics.{named}
 use Rattle.state_record.specs.View.{system_in}
-use Rattle.request_value.proofs.Laws.{none_left, some_left, value-next}
-use Rattle.request_call.proofs.Laws.{HeldRest, held-over, held-fails, held_next, held_whole}
+use Rattle.request_call.proofs.Laws.{HeldRest}
 use Rattle.request_value.specs.Sent.{arguments_of}
 use Rattle.request_call.proofs.arguments_held.Given as goal
 

@@ -1,7 +1,6 @@
 -- What is planned of the call says what is left of it.
 use mir.Facts.{to_z-of_z}
 use mathlib.Core.Path.{ap}
-use borrow.Author.Rules.{rules}
 use Rattle.state_record.specs.Whole.{whole}
 use Rattle.state_record.proofs.Kept.{sound-room}
 use Rattle.request_common.specs.Served.{done}

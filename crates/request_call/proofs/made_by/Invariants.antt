@@ -1,15 +1,9 @@
 -- The invariant: the calls so far are counted, as the model counts them.
-use mathlib.Core.Path.{◌≡◌, refl, ap, sym, ◌∙◌}
-use mathlib.Core.Logic.{⊎_elim}
-use mathlib.Core.Bool.{Bool, cond}
-use Prim.Native.Nat.{ℕ, suc, ◌+◌, ◌-◌, ◌≤◌}
-use native.Mathlib.Numerals.{add-one}
-use native.Mathlib.Omega.{arith}
-use borrow.Author.Rules.{rules}
-use borrow.Author.Tests.{eq-eqb, ne_eqb}
+use mathlib.Core.Path.{◌≡◌}
+use Prim.Native.Nat.{◌-◌, ◌≤◌}
 use Rattle.spec_model.specs.Basics.{from}
 use Rattle.spec_model.specs.Requests.{made_by}
-use Rattle.state_record.proofs.Kept.{called, calls-from, ended, made-last}
+use Rattle.state_record.proofs.Kept.{called}
 use Rattle.request_call.proofs.made_by.Given as goal
 
 abbrev pub invariant-loop-j : goal.invariant-loop-j

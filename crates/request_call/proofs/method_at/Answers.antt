@@ -1,6 +1,5 @@
 -- A number type has no methods; a reference type's is read from its record.
 use native.Mathlib.Omega.{arith}
-use borrow.Author.Rules.{rules}
 use Rattle.request_call.proofs.Laws.{method-none, method-some}
 use Rattle.request_call.proofs.method_at.Goals as goal
 

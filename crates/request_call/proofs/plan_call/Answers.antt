@@ -1,11 +1,7 @@
 -- The tests of C1 to C3 in their order; what passed names the subject, the cell and the method.
-use mathlib.Core.Bool.{not}
-use mathlib.Core.Path.{ap}
 use mir.Facts.{to_z-of_z}
 use mathlib.Core.Path.{refl, sym, ◌∙◌}
 use native.Mathlib.Omega.{arith}
-use borrow.Author.Tests.{not-true, not-false}
-use borrow.Author.Rules.{rules}
 use Rattle.spec_model.specs.Refusals.{unknown_subject, not_held, not_callable}
 use Rattle.state_record.specs.Whole.{whole}
 use Rattle.request_call.proofs.Calling.{planned-as, planned-refuses, asked-unknown-subject, who-named, asked-not-held, cell-here, asked-not-callable, asked-goes}

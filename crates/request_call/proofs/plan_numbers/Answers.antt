@@ -2,7 +2,6 @@
 use mathlib.Core.Path.{refl, sym}
 use mathlib.Core.Bool.{true, false}
 use native.Mathlib.Omega.{arith}
-use borrow.Author.Rules.{rules}
 use Rattle.spec_model.proofs.Rules.{never}
 use Rattle.state_record.specs.Whole.{whole}
 use Rattle.state_places.specs.Behind.{layers_in}

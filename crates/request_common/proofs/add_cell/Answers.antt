@@ -1,5 +1,4 @@
 -- No room (`cell-refused`), or one cell more (`cell-added`).
-use borrow.Author.Rules.{rules}
 use Rattle.state_record.specs.Whole.{whole}
 use Rattle.request_common.proofs.Laws.{step-refuses-kept, cell-eq, cell-refused, cell-added}
 use Rattle.request_common.proofs.add_cell.Goals as goal

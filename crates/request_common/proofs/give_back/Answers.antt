@@ -1,7 +1,6 @@
 -- By whether the answer is a refusal.
 use mathlib.Core.Path.{sym, ap, ◌∙◌}
 use mathlib.Core.Bool.{Bool, cond}
-use borrow.Author.Rules.{rules}
 use Rattle.request_common.proofs.give_back.Goals as goal
 
 pub returns-then-accepted : goal.returns-then-accepted

@@ -1,7 +1,6 @@
 -- The number names no cell, or one whose holder is compared; a signed local is kept as 64 bits, from which `to_z-of_z` reads it back.
 use native.Mathlib.Omega.{arith}
 use mir.Facts.{to_z-of_z}
-use borrow.Author.Rules.{rules}
 use Rattle.request_common.proofs.Laws.{held-not, held_by}
 use Rattle.request_common.proofs.is_held.Goals as goal
 

@@ -1,7 +1,6 @@
 -- The number names no sheet type, or one whose record is read; `to_z-of_z` as in `is_subject`.
 use native.Mathlib.Omega.{arith}
 use mir.Facts.{to_z-of_z}
-use borrow.Author.Rules.{rules}
 use Rattle.request_common.proofs.Laws.{sheet-class-not, sheet-class-is}
 use Rattle.request_common.proofs.is_sheet_class.Goals as goal
 

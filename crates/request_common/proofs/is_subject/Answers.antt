@@ -1,6 +1,5 @@
 -- A signed local is kept as 64 bits, from which `to_z-of_z` reads it back.
 use mir.Facts.{to_z-of_z}
-use borrow.Author.Rules.{rules}
 use Rattle.request_common.proofs.Laws.{subject-is}
 use Rattle.request_common.proofs.is_subject.Goals as goal
 

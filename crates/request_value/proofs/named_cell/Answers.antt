@@ -2,7 +2,6 @@
 use mir.Syntax.{w64}
 use mir.Facts.{to_z-of_z}
 use native.Mathlib.Omega.{arith}
-use borrow.Author.Rules.{rules}
 use Rattle.request_value.proofs.Laws.{cell-named, cell-unnamed}
 use Rattle.request_value.proofs.named_cell.Goals as goal
 

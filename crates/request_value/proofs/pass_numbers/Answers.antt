@@ -1,16 +1,14 @@
 use mir.Syntax.{w64}
 use mir.Val.{SFits}
 use mir.Facts.{to_z-of_z}
-use mathlib.Core.Path.{◌≡◌, refl}
-use Prim.Native.Nat.{ℕ, ◌-◌, ◌≤◌}
+use mathlib.Core.Path.{refl}
 use native.Mathlib.Omega.{arith}
-use lib.ListN.{length, get_or, drop_of_length-le}
+use lib.ListN.{get_or, drop_of_length-le}
 use lib.IntN.{pos}
 use borrow.Author.Rules.{rules}
-use Rattle.state_record.specs.Whole.{Whole}
 use Rattle.state_record.specs.View.{system_in}
 use Rattle.crossing_targets.specs.Targets.{call_layers_in, targets_in}
-use Rattle.request_value.proofs.Sending.{NumbersRest, numbers-over, numbers-end, numbers-stop, numbers-next, number_of, passed-of}
+use Rattle.request_value.proofs.Sending.{numbers-over, numbers-end, numbers-stop, numbers-next, number_of, passed-of}
 use Rattle.request_value.proofs.Laws.{none_left, some_left, value-next}
 use Rattle.request_value.specs.Sent.{arguments_of}
 use Rattle.request_value.proofs.pass_numbers.Goals as goal

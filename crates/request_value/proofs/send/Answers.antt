@@ -1,7 +1,6 @@
 -- The crossing was refused (`send-refused`), or what arrived becomes a cell (`send-adds`).
 use mir.Facts.{to_z-of_z}
 use mathlib.Core.Path.{ap}
-use borrow.Author.Rules.{rules}
 use Rattle.state_record.specs.Whole.{whole}
 use Rattle.request_common.specs.Served.{done}
 use Rattle.request_common.proofs.Laws.{ty-byte, place_byte}

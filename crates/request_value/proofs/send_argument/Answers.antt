@@ -2,7 +2,6 @@
 use mathlib.Core.Path.{ap}
 use mir.Facts.{to_z-of_z}
 use native.Mathlib.Omega.{arith}
-use borrow.Author.Rules.{rules}
 use Rattle.state_record.specs.Whole.{whole}
 use Rattle.request_common.specs.Served.{done}
 use Rattle.crossing_targets.specs.Targets.{call_layers_in, targets_in}

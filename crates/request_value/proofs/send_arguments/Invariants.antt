@@ -1,18 +1,9 @@
 -- The invariant is the rest: all arguments are sent as those from i on, by the state as it has become.
-use mir.Syntax.{w64}
-use mir.Facts.{to_z-of_z}
-use mathlib.Core.Path.{sym, ◌∙◌}
 use Prim.Native.Nat.{◌-◌, ◌≤◌}
-use native.Mathlib.Omega.{arith}
-use lib.ListN.{length, get_or, drop_of_length-le}
-use lib.IntN.{pos}
-use borrow.Author.Tests.{not-true, not-false}
-use borrow.Author.Rules.{rules}
+use lib.ListN.{length}
 use Rattle.state_record.specs.Whole.{whole}
-use Rattle.request_common.specs.Served.{done}
 use Rattle.crossing_targets.specs.Targets.{call_layers_in}
-use Rattle.request_value.proofs.Sending.{Sends, sends-starts, sends-over, sends-end, sends-stop, sends-next, sends-room}
-use Rattle.request_value.proofs.Laws.{none_left, some_left, value-next}
+use Rattle.request_value.proofs.Sending.{Sends}
 use Rattle.request_value.specs.Sent.{arguments_of}
 use Rattle.request_value.proofs.send_arguments.Given as goal
 
