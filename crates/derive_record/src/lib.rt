@@ -98,6 +98,8 @@ pub fn begin(b: &[u8; TYPE_BYTES], c: Counts, n: usize, kind: u8, t: usize, s: u
 }
 
 // Both sides are read. The new type has its number from here on (D16); until its signatures are there every method of it is denied.
+// It stays a function by itself, so that its records are not on the stack of each derivation that others are nested in.
+#[inline(never)]
 pub fn start(b: &mut [u8; TYPE_BYTES], n: usize, kind: u8, t: usize, s: usize) -> Work
     requires { (n < max_types) × (t < max_types) × (s < max_types) × (length b.old ≡ types_size) }
     ensures { Opened kind t s n result b.old b.new }

@@ -240,8 +240,6 @@ pub fn read_into(s: &[u8], types: &mut [u8; TYPE_BYTES], links: &mut [u8; LINK_B
 }
 
 // The same, with the bytes of the table in the result.
-// A function that stays one: what it makes is on the stack only while it reads.
-#[inline(never)]
 pub fn read(s: &[u8]) -> Sheet
     ensures { result ≡ sheet_for (read_sheet s.now) }
 {

@@ -2,7 +2,6 @@
 use mathlib.Core.Path.{sym, ap}
 use Rattle.state_offers.specs.Chained.{offered_as}
 use Rattle.export_runs.specs.Results.{offered_out}
-use borrow.Author.Rules.{rules}
 use Rattle.export_runs.proofs.offered_code.Goals as goal
 
 pub returns-in-Unfit : goal.returns-in-Unfit

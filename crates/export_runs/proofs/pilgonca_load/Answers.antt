@@ -1,7 +1,6 @@
 -- The state of the sheet that was read is stored in arrays that were cleared (proofs/Loading).
 use mathlib.Core.Path.{refl}
 use Rattle.export_runs.proofs.Loading.{loaded-is}
-use borrow.Author.Rules.{rules}
 use Rattle.export_runs.proofs.pilgonca_load.Goals as goal
 
 pub returns : goal.returns

@@ -1,7 +1,6 @@
 -- The C function answers as `state_offers::offers` does; on 2 the answer's place is as it was.
 use mathlib.Core.Path.{ap, ◌∙◌}
 use mir.Facts.{to_z-of_z}
-use borrow.Author.Rules.{rules}
 use Rattle.export_runs.specs.Results.{offered_out}
 use Rattle.export_runs.proofs.pilgonca_offers.Goals as goal
 

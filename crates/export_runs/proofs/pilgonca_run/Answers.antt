@@ -8,7 +8,6 @@ use Rattle.state_bytes.specs.Flat.{flat}
 use Rattle.request_run.specs.Requested.{run_handed}
 use Rattle.request_run.specs.Ran.{room, over, Runs}
 use Rattle.export_runs.proofs.Running.{run-unfit, run-refused, run-taken}
-use borrow.Author.Rules.{rules}
 use Rattle.export_runs.proofs.pilgonca_run.Goals as goal
 
 pub returns-then-not-codes_fit : goal.returns-then-not-codes_fit

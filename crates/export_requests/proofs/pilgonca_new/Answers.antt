@@ -1,0 +1,11 @@
+-- Its operands are the request; a signed number is kept as 64 bits (`to_z-of_z`).
+use mathlib.Core.Path.{refl}
+use mir.Facts.{to_z-of_z}
+use Rattle.spec_model.specs.Requests.{new}
+use Rattle.export_requests.proofs.pilgonca_new.Goals as goal
+
+pub returns : goal.returns
+returns c =
+    let a = c.args in
+    let f = c.ranges in
+    c.serve_bytes.ensures (new a.subject a.class a.to) (rw (to_z-of_z f.subject, to_z-of_z f.class, to_z-of_z f.to) refl)
