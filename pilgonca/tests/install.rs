@@ -231,10 +231,10 @@ fn the_code_is_as_small_as_said() {
     let all = measured("everything", &format!("{requests}{others}")) - none;
     println!("requests {some}, everything {all}");
     let said = |kilobytes: usize| 1000 * kilobytes;
-    assert!(some <= said(45) && all <= said(125));
+    assert!(some <= said(47) && all <= said(142));
     for page in ["README.md", "docs/GUIDE.md"] {
         let page = read(&root().join(page));
-        assert!(page.contains("45 KB") && page.contains("125 KB"));
+        assert!(page.contains("47 KB") && page.contains("142 KB"));
     }
 }
 

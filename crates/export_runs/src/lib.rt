@@ -38,15 +38,11 @@ pub fn pilgonca_load(
     ensures { LoadedIs (read_sheet text.now) result at.new
         (flat types.new links.new cells.new places.new calls.new counts.new) }
 {
-    let r = sheet_read::read(text);
-    let t = r.types;
-    let l = r.links;
-    let c = r.counts;
-    *types = t;
-    *links = l;
+    let r = sheet_read::read_into(text, types, links);
     *at = r.at;
     clear(cells, places, calls);
-    let s = State::loaded(l, c);
+    let l = *links;
+    let s = State::loaded(l, r.counts);
     request_results::store(s, cells, places, calls, counts);
     r.refusal
 }

@@ -77,7 +77,8 @@ fn give_reference(
     answered(q.state, j, outcome)
 }
 
-// A value v where type a is due (A6 to A12).
+// A value v where type a is due (A6 to A12). It stays a function by itself: an answer of nothing has none of it on the stack.
+#[inline(never)]
 fn give_value(
     types: &mut [u8; TYPE_BYTES],
     s: State,

@@ -54,7 +54,9 @@ fn planned(types: &[u8; TYPE_BYTES], s: State, code: usize, ops: &[i64]) -> Plan
     request_call::plan_call(types, s, ops[0], ops[1], ops[2], &ops[3..])
 }
 
-// A request that may store types: they are saved first, and given back where it is refused (Q14).
+// A request that may store types: they are saved first, and given back where it is refused (Q14). It stays a function by itself, so that what is saved is on the
+// stack of no other request.
+#[inline(never)]
 fn serve_saved(types: &mut [u8; TYPE_BYTES], s: State, code: usize, ops: &[i64]) -> Served
     requires { Sound (whole types.old s) × (system_accepted (raw_state (whole types.old s)) ≡ true) }
     ensures { ServesAsked (whole types.old s) (by_code code ops.now) (done types.new result) }
