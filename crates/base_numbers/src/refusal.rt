@@ -1,4 +1,41 @@
-// The refusals by name: docs/refusals.txt, which says each in words.
+ghost use Rattle.std.specs.Prelude.{◌≡◌};
+ghost use Rattle.base_numbers.specs.Refusal.{number_of};
+
+// The refusals by name: docs/refusals.txt, which says each in words. What can be refused answers a `Result` with one of these; its number is told at the
+// entry points and in texts alone.
+#[derive(Clone, Copy, Debug, PartialEq, Eq)]
+pub enum Refusal {
+    Form = 1,
+    OutOfRange = 2,
+    NotBelow = 3,
+    ShortBuffer = 4,
+    UnknownSubject = 5,
+    NotHeld = 6,
+    UnknownType = 7,
+    Unrelated = 8,
+    NotOwner = 9,
+    NotStrict = 10,
+    TypesFull = 11,
+    PlacesFull = 12,
+    CellsFull = 13,
+    NotCallable = 14,
+    WrongValues = 15,
+    TooWide = 16,
+    AnsweredAlready = 17,
+    CallsFull = 18,
+    LaterLayer = 19,
+    UnfitTimes = 22,
+}
+
+impl Refusal {
+    pub fn number(self) -> usize
+        ensures { result ≡ number_of self }
+    {
+        self as usize
+    }
+}
+
+// The same as numbers, for the crates that do not answer a `Result` yet.
 pub const FORM: usize = 1;
 
 pub const OUT_OF_RANGE: usize = 2;
