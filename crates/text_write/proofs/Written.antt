@@ -12,22 +12,22 @@ use Rattle.spec_model.specs.Basics.{refuse, ok}
 use Rattle.spec_model.specs.Refusals.{short_buffer}
 use Rattle.spec_sheet.specs.Text.{Written, write_text}
 use Rattle.spec_sheet.proofs.Steps.{ok-value, refuse-ok}
-use Rattle.text_write.specs.declared.Wrote.{Wrote}
-use Rattle.text_write.specs.declared.Wrote.TheVariants.{Refused, Length}
+use Rattle.std.specs.Prelude.{Ok, Err}
+use Rattle.base_numbers.specs.declared.refusal.Refusal.TheVariants.{ShortBuffer}
 use Rattle.text_write.specs.Fill.{Filled}
-use Rattle.text_write.specs.Written.{number_of, value_of, written_of, WrittenIs}
+use Rattle.text_write.specs.Written.{Wrote, number_of, value_of, written_of, WrittenIs}
 use Rattle.text_write.proofs.Laws.{counted}
 
-pub fits-is : {new : List ℕ} {m : ℕ} (xs buf : List ℕ) → length xs ≤ length buf → Filled buf new xs m → written_of (Length m) new ≡ write_text xs buf
+pub fits-is : {new : List ℕ} {m : ℕ} (xs buf : List ℕ) → length xs ≤ length buf → Filled buf new xs m → written_of (Ok m) new ≡ write_text xs buf
 unfolding write_text
 fits-is xs buf k g = rw (g.said, g.text k, le-leb (length xs) (length buf) k)
 
 -- refused, where its length is known
-pub refused-is : (xs buf : List ℕ) → length buf < length xs → written_of (Refused short_buffer) buf ≡ write_text xs buf
+pub refused-is : (xs buf : List ℕ) → length buf < length xs → written_of (Err ShortBuffer) buf ≡ write_text xs buf
 unfolding write_text
 refused-is xs buf h = rw (lt-leb (length xs) (length buf) h)
 
-pub short-is : {tl : List ℕ} {n : ℕ} (xs buf : List ℕ) → Filled [] tl xs n → length (tl ++ buf) < n → written_of (Refused short_buffer) (tl ++ buf) ≡ write_text xs buf
+pub short-is : {tl : List ℕ} {n : ℕ} (xs buf : List ℕ) → Filled [] tl xs n → length (tl ++ buf) < n → written_of (Err ShortBuffer) (tl ++ buf) ≡ write_text xs buf
 unfolding write_text
 short-is {tl} {n} xs buf f s =
     let e : tl ++ buf ≡ buf = counted f in
@@ -35,7 +35,7 @@ short-is {tl} {n} xs buf f s =
     let w = f.said in
     rw (e, lt-leb (length xs) (length buf) (omega arith))
 
-pub length-is : {tl new : List ℕ} {n m : ℕ} (xs buf : List ℕ) → Filled [] tl xs n → n ≤ length (tl ++ buf) → Filled (tl ++ buf) new xs m → written_of (Length m) new ≡ write_text xs buf
+pub length-is : {tl new : List ℕ} {n m : ℕ} (xs buf : List ℕ) → Filled [] tl xs n → n ≤ length (tl ++ buf) → Filled (tl ++ buf) new xs m → written_of (Ok m) new ≡ write_text xs buf
 unfolding write_text
 length-is {tl} {new} {n} {m} xs buf f s g =
     let e : tl ++ buf ≡ buf = counted f in
@@ -50,7 +50,7 @@ written_is {n} {old} w v same number length =
     record { number = number ∙ ap (λ x. number_of x.result) same; length = length ∙ ap (λ x. value_of old x.result) same; bytes = ap (λ x. x.buffer) same }
 
 -- for the program: what was written stands within the buffer
-pub wrote-within : (w : Wrote) (n : ℕ) (xs old new : List ℕ) → w ≡ Length n → written_of w new ≡ write_text xs old → (n ≤ length new) × (n ≡ length (take n new))
+pub wrote-within : (w : Wrote) (n : ℕ) (xs old new : List ℕ) → w ≡ Ok n → written_of w new ≡ write_text xs old → (n ≤ length new) × (n ≡ length (take n new))
 unfolding write_text
 wrote-within w n xs old new e h = go (leb (length xs) (length old)) (ap (λ (z : Wrote). written_of z new) (sym e) ∙ h)
   where
@@ -60,7 +60,7 @@ wrote-within w n xs old new e h = go (leb (length xs) (length old)) (ap (λ (z :
         let b : length new ≡ length xs + length (drop (length xs) old) = ap length q ∙ length-append xs (drop (length xs) old) in
         let k : n ≤ length new = omega arith in (k, sym (length-take-le n new k))
 
-    go : (b : Bool) → written_of (Length n) new ≡ cond b (record { result = ok (length xs); buffer = xs ++ drop (length xs) old }) (record { result = refuse short_buffer; buffer = old })
+    go : (b : Bool) → written_of (Ok n) new ≡ cond b (record { result = ok (length xs); buffer = xs ++ drop (length xs) old }) (record { result = refuse short_buffer; buffer = old })
         → (n ≤ length new) × (n ≡ length (take n new))
     go true q = done (ap (λ (z : Written). z.result) q) (ap (λ (z : Written). z.buffer) q)
     go false q = refuse-ok (sym (ap (λ (z : Written). z.result) q))

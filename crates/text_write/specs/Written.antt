@@ -1,13 +1,16 @@
 -- The number and value of each case that a writer comes to (E4), and what it leaves.
-use Rattle.std.specs.Prelude.{ℕ, ◌≡◌, List}
+use Rattle.std.specs.Prelude.{ℕ, ◌≡◌, List, Result}
 use Rattle.spec_model.specs.Basics.{Res, refuse, ok}
 use Rattle.spec_sheet.specs.Text.{Written}
-use Rattle.text_write.specs.declared.Wrote.{Wrote}
-use Rattle.text_write.specs.declared.Wrote.TheVariants.{Refused, Length}
+use Rattle.base_numbers.specs.Refusal.{res_by}
+use Rattle.base_numbers.specs.declared.refusal.Refusal.{Refusal}
+
+-- what comes of a text and a buffer: the text's length, or why it is refused
+abbrev pub Wrote : Type 0
+Wrote = Result ℕ Refusal
 
 abbrev pub wrote_result : Wrote → Res ℕ
-wrote_result (Refused n) = refuse n
-wrote_result (Length n) = ok n
+wrote_result = res_by λ n. n
 
 -- the number of a refusal, or 0; and what is handed out beside it, which stays `old` where it is refused
 abbrev pub number_of : {A : Type 0} → Res A → ℕ

@@ -1,7 +1,6 @@
 // Bytes, decimals and lines, written in front of a buffer that is lent: `put_..` writes a piece of a line, `write_..` whole lines with their LF. A writer is
 // total: it says how long its text is, and where the buffer has room for it, writes it and leaves the bytes behind it. On an empty part of a buffer it only
-// counts. The rest of the buffer, lent to the next writer, begins at `least` of what was written and the buffer's length: at its end, where the text was too
-// long.
+// counts. The rest of the buffer, lent to the next writer (F2), begins behind what was written: at the buffer's end, where the text was too long.
 #![tactic(auto)]
 
 ghost use Rattle.std.specs.Prelude.{◌≡◌, [], ◌∷◌, ◌+◌, ◌≤◌, ◌<◌, length};
@@ -10,25 +9,18 @@ ghost use Rattle.spec_sheet.specs.Text.{number_text};
 ghost use Rattle.text_write.specs.Fill.{Filled, Lined};
 ghost use Rattle.text_write.specs.Written.{wrote_result, number_of, value_of};
 
-use base_numbers::least;
+use base_numbers::refusal::Refusal;
 
-// What comes of a text and a buffer: the number of a refusal, or the text's length. specs/Written.antt says what it stands for.
-#[derive(Clone, Copy)]
-pub enum Wrote {
-    Refused(usize),
-    Length(usize),
-}
-
-// What a C function returns for it: the refusal's number, or 0 with the length handed out (E12).
-pub fn wrote_code(w: Wrote, length: &mut usize) -> usize
+// What a C function returns for a text's length or its refusal: the refusal's number, or 0 with the length handed out (E12).
+pub fn wrote_code(w: Result<usize, Refusal>, length: &mut usize) -> usize
     ensures { (result ≡ number_of (wrote_result w)) × (length.new ≡ value_of length.old (wrote_result w)) }
 {
     match w {
-        Wrote::Refused(n) => n,
-        Wrote::Length(n) => {
+        Ok(n) => {
             *length = n;
             0
         }
+        Err(refusal) => refusal.number(),
     }
 }
 
@@ -36,10 +28,9 @@ pub fn wrote_code(w: Wrote, length: &mut usize) -> usize
 pub fn put_byte(buf: &mut [u8], b: u8) -> usize
     ensures { Filled buf.old buf.new (b ∷ []) result }
 {
-    if buf.len() == 0 {
-        return 1;
+    if let Some(first) = buf.first_mut() {
+        *first = b;
     }
-    buf[0] = b;
     1
 }
 
@@ -47,22 +38,18 @@ pub fn put_byte(buf: &mut [u8], b: u8) -> usize
 pub fn put_bytes(buf: &mut [u8], t: &[u8]) -> usize
     ensures { Filled buf.old buf.new t.now result }
 {
-    if buf.len() < t.len() {
-        return t.len();
+    let n = t.len();
+    if n <= buf.len() {
+        buf[..n].copy_from_slice(t);
     }
-    let mut i: usize = 0;
-    while i < t.len() {
-        buf[i] = t[i];
-        i += 1;
-    }
-    i
+    n
 }
 
 fn digit(d: usize) -> u8
     requires { d < 10 }
     ensures { result ≡ 48 + d }
 {
-    48 + (d as u8)
+    b'0' + d as u8
 }
 
 // A decimal (S21): the digits in front of the last, and the last in the rest of the buffer.
@@ -74,9 +61,8 @@ pub fn put_decimal(buf: &mut [u8], n: usize) -> usize
         return put_byte(buf, digit(n));
     }
     let a = put_decimal(buf, n / 10);
-    let k = least(a, buf.len());
-    let c = put_byte(&mut buf[k..], digit(n % 10));
-    a + c
+    let k = a.min(buf.len());
+    a + put_byte(&mut buf[k..], digit(n % 10))
 }
 
 // A key and a number.
@@ -86,9 +72,8 @@ pub fn put_number(buf: &mut [u8], key: &[u8], n: usize) -> usize
     ensures few { result ≤ 36 }
 {
     let a = put_bytes(buf, key);
-    let k = least(a, buf.len());
-    let b = put_decimal(&mut buf[k..], n);
-    a + b
+    let k = a.min(buf.len());
+    a + put_decimal(&mut buf[k..], n)
 }
 
 // A line of a key and a number (W6).
@@ -98,9 +83,8 @@ pub fn write_number(buf: &mut [u8], key: &[u8], n: usize) -> usize
     ensures few { result ≤ 37 }
 {
     let a = put_number(buf, key, n);
-    let k = least(a, buf.len());
-    let b = put_byte(&mut buf[k..], 10);
-    a + b
+    let k = a.min(buf.len());
+    a + put_byte(&mut buf[k..], b'\n')
 }
 
 // A line of fixed bytes.
@@ -110,7 +94,6 @@ pub fn write_word(buf: &mut [u8], t: &[u8]) -> usize
     ensures few { result ≤ 17 }
 {
     let a = put_bytes(buf, t);
-    let k = least(a, buf.len());
-    let b = put_byte(&mut buf[k..], 10);
-    a + b
+    let k = a.min(buf.len());
+    a + put_byte(&mut buf[k..], b'\n')
 }

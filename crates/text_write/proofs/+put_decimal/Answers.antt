@@ -21,6 +21,6 @@ returns t c =
     let n = c.args.n in
     let d : n / 10 * 10 + n % 10 ≡ n = div-add-mod' n 10 in
     let k : n < 18446744073709551616 = search rules in
-    let f = fill-rest c.put_decimal-a.ensures.is c.least-k.ensures.0 c.put_byte-c.ensures in
+    let f = fill-rest c.put_decimal-a.ensures.is c.min-k.ensures c.put_byte-2.ensures in
     let g = fill_is (ap (λ z. decimal (n / 10) ++ z ∷ []) c.digit-2.ensures ∙ sym (decimal-more n c.if-n-lt10.false (omega (arith, k)))) f in
     record { is = g; few = omega (arith, g.said, decimal-few n) }
