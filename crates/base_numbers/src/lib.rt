@@ -54,12 +54,8 @@ pub fn least(a: usize, b: usize) -> usize
 pub fn index_of(z: i64, n: usize) -> usize
     ensures { result ≡ index_of z n }
 {
-    if z < 0 {
-        return n;
+    match usize::try_from(z) {
+        Ok(k) if k < n => k,
+        _ => n,
     }
-    let k = z as usize;
-    if k < n {
-        return k;
-    }
-    n
 }

@@ -61,8 +61,8 @@ ref-rep r e = ap (λ (n : ℕ). is_ref (rep_of n)) e
 
 -- A number type may stand in a signature; a reference type by its own flag.
 module _ (x : RawType) where
-  pub number-stands : (x.rep ≡ 0 → ⊥) → true ≡ may_stand_as x
-  number-stands h = rw (number-rep x.rep h)
+  pub number-stands : (x.rep ≡ 0 → ⊥) → not (eqb x.rep 0) ≡ may_stand_as x
+  number-stands h = rw (number-rep x.rep h, ne_eqb x.rep 0 h)
 
   pub reference-stands : x.rep ≡ 0 → not (eqb x.own 1) ≡ may_stand_as x
   reference-stands e = rw (ref-rep x.rep e)

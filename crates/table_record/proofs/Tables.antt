@@ -60,7 +60,7 @@ module _ (ms sh : ℕ) (rs : List RawType) where
 
 -- Reference types of the first n.
 module _ (n t : ℕ) (b : List ℕ) where
-  pub no_ref : n ≤ t → false ≡ ref_in n b t
+  pub no_ref : n ≤ t → ltb t n ≡ ref_in n b t
   no_ref h = rw (le-ltb t n h)
 
   pub ref-among : (r : Bool) → t < n → r ≡ ref_as (get_or (types_in b) t no_raw_type) → r ≡ ref_in n b t

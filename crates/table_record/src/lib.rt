@@ -58,13 +58,7 @@ impl Counts {
     pub fn with_types(self, types: usize) -> Self
         ensures { result ≡ with_count self types }
     {
-        Self {
-            subjects: self.subjects,
-            methods: self.methods,
-            cats: self.cats,
-            sheet: self.sheet,
-            types,
-        }
+        Self { types, ..self }
     }
 }
 
@@ -108,8 +102,7 @@ impl Method {
         requires { i < argument_slots }
         ensures { (result ≡ get_or self.args i 0) × (result < 256) × (length self.args ≡ argument_slots) }
     {
-        let args = self.args;
-        base_numbers::wide(args[i])
+        usize::from(self.args[i])
     }
 }
 
@@ -156,17 +149,17 @@ impl TypeRec {
     pub fn empty() -> Self
         ensures { result ≡ empty_type }
     {
-        let m = Method::empty();
-        let methods = [m; Counts::METHODS];
-        let head = Head {
-            rep: Head::REF,
-            cat: 0,
-            own: 0,
-            kind: 0,
-            left: 0,
-            right: 0,
-        };
-        Self { head, methods }
+        Self {
+            head: Head {
+                rep: Head::REF,
+                cat: 0,
+                own: 0,
+                kind: 0,
+                left: 0,
+                right: 0,
+            },
+            methods: [Method::empty(); Counts::METHODS],
+        }
     }
 }
 
@@ -204,10 +197,7 @@ impl Links {
 pub fn permits(state: u8) -> bool
     ensures { result ≡ permit (state_of state) }
 {
-    if state == Method::OPTIONAL {
-        return true;
-    }
-    state == Method::AVAIL
+    matches!(state, Method::OPTIONAL | Method::AVAIL)
 }
 
 // Bytes for the types of an empty table, and for its links.
@@ -266,11 +256,10 @@ pub fn get_method(b: &[u8; TYPE_BYTES], i: usize, j: usize) -> Method
     ensures { raw_method result ≡ raw_in b.now i j }
 {
     let at = method_at(i, j);
-    let args = [b[at + 2], b[at + 3], b[at + 4], b[at + 5]];
     Method {
         state: b[at],
         count: b[at + 1],
-        args,
+        args: [b[at + 2], b[at + 3], b[at + 4], b[at + 5]],
         answer: b[at + 6],
     }
 }
@@ -280,8 +269,7 @@ pub fn method_state(b: &[u8; TYPE_BYTES], i: usize, j: usize) -> u8
     requires { (i < max_types) × (j < max_methods) }
     ensures { result ≡ (raw_in b.now i j).state }
 {
-    let at = method_at(i, j);
-    b[at]
+    b[method_at(i, j)]
 }
 
 // How many arguments are used.
@@ -289,8 +277,7 @@ pub fn method_count(b: &[u8; TYPE_BYTES], i: usize, j: usize) -> u8
     requires { (i < max_types) × (j < max_methods) }
     ensures { result ≡ (raw_in b.now i j).count }
 {
-    let at = method_at(i, j);
-    b[at + 1]
+    b[method_at(i, j) + 1]
 }
 
 // What argument slot k holds, whether it is used or not.
@@ -298,8 +285,7 @@ pub fn method_argument(b: &[u8; TYPE_BYTES], i: usize, j: usize, k: usize) -> u8
     requires { (i < max_types) × (j < max_methods) × (k < argument_slots) }
     ensures { result ≡ get_or (raw_in b.now i j).args k 0 }
 {
-    let at = method_at(i, j);
-    b[at + 2 + k]
+    b[method_at(i, j) + 2 + k]
 }
 
 // 0 for no answer, else the number of its type plus 1.
@@ -307,8 +293,7 @@ pub fn method_answer(b: &[u8; TYPE_BYTES], i: usize, j: usize) -> u8
     requires { (i < max_types) × (j < max_methods) }
     ensures { result ≡ (raw_in b.now i j).answer }
 {
-    let at = method_at(i, j);
-    b[at + 6]
+    b[method_at(i, j) + 6]
 }
 
 // Whether type i is a reference type.
@@ -316,8 +301,7 @@ pub fn is_ref(b: &[u8; TYPE_BYTES], i: usize) -> bool
     requires { i < max_types }
     ensures { result ≡ ref_as (get_or (types_in b.now) i no_raw_type) }
 {
-    let h = get_head(b, i);
-    h.rep == Head::REF
+    get_head(b, i).rep == Head::REF
 }
 
 // Whether t names a reference type of the first n.
@@ -325,10 +309,7 @@ pub fn names_ref(b: &[u8; TYPE_BYTES], n: usize, t: usize) -> bool
     requires { n ≤ max_types }
     ensures { result ≡ ref_in n b.now t }
 {
-    if n <= t {
-        return false;
-    }
-    is_ref(b, t)
+    t < n && is_ref(b, t)
 }
 
 // Whether type i may stand in a signature: a type without own, which a number type always is.
@@ -337,10 +318,7 @@ pub fn may_stand(b: &[u8; TYPE_BYTES], i: usize) -> bool
     ensures { result ≡ may_stand_as (get_or (types_in b.now) i no_raw_type) }
 {
     let h = get_head(b, i);
-    if h.rep != Head::REF {
-        return true;
-    }
-    h.own != Head::OWN
+    h.rep != Head::REF || h.own != Head::OWN
 }
 
 // Type i.
@@ -349,14 +327,12 @@ pub fn get_type(b: &[u8; TYPE_BYTES], i: usize) -> TypeRec
     ensures is { raw_of result ≡ get_or (types_in b.now) i no_raw_type }
     ensures shape { length result.methods ≡ max_methods }
 {
-    let head = get_head(b, i);
-    let none = Method::empty();
-    let mut methods = [none; Counts::METHODS];
-    let mut j: usize = 0;
-    while j < Counts::METHODS {
-        let m = get_method(b, i, j);
-        methods[j] = m;
-        j += 1;
+    let mut methods = [Method::empty(); Counts::METHODS];
+    for j in 0..Counts::METHODS {
+        methods[j] = get_method(b, i, j);
     }
-    TypeRec { head, methods }
+    TypeRec {
+        head: get_head(b, i),
+        methods,
+    }
 }

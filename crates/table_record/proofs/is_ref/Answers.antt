@@ -7,4 +7,4 @@ use Rattle.table_record.proofs.Codes.{rep-code}
 use Rattle.table_record.proofs.is_ref.Goals as goal
 
 pub returns : goal.returns
-returns c = rep-code c.get_head-h.result.rep ∙ ap (λ (h : Head). is_ref (rep_of h.rep)) c.get_head-h.ensures
+returns c = rep-code c.get_head.result.rep ∙ ap (λ (h : Head). is_ref (rep_of h.rep)) c.get_head.ensures

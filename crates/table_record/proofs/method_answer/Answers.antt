@@ -8,5 +8,5 @@ pub returns : goal.returns
 returns c =
     let a = c.args in
     let pre = c.requires in
-    let at = c.method_at-at in
+    let at = c.method_at in
     ap (λ (m : RawMethod). m.answer) (method-read a.b.now a.i a.j at.result pre.0 pre.1 at.ensures)

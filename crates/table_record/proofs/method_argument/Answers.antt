@@ -9,6 +9,6 @@ pub returns : goal.returns
 returns c =
     let a = c.args in
     let pre = c.requires in
-    let at = c.method_at-at in
+    let at = c.method_at in
     slot_at a.b.now at.result a.k pre.2
     ∙ ap (λ (m : RawMethod). get_or m.args a.k 0) (method-read a.b.now a.i a.j at.result pre.0 pre.1 at.ensures)
