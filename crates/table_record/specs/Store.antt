@@ -1,10 +1,15 @@
 -- What proofs and contracts of steps say of stored records beside the layout, which is passed on.
-use Rattle.std.specs.Prelude.{◌≡◌, Bool, not, ◌&&◌, ℕ, ◌*◌, ◌<◌, eqb, ltb, List, [], ◌∷◌, map, length, get_or, replicate}
+use Rattle.std.specs.Prelude.{◌≡◌, Option, None, Some, Bool, not, ◌&&◌, ℕ, ◌*◌, ◌<◌, eqb, ltb, List, [], ◌∷◌, map, length, get_or, replicate}
+use Rattle.std.proofs.Math.Option.{none, some}
+use Rattle.std.proofs.Math.Option.{Option as Optionᵐ}
 use Rattle.std.proofs.lemmas.List.Edits.{sets}
 use Rattle.spec_model.specs.Basics.{from}
-use Rattle.spec_model.specs.Table.{Ty, is_ref, max_methods}
+use Rattle.spec_model.specs.Table.{Ty, is_ref, sub, sup, closed, max_methods}
+use Rattle.spec_model.specs.Table.{Kind as Kindᵐ}
 use Rattle.spec_model.specs.Table.{Method as Methodᵐ}
 use Rattle.spec_model.specs.Check.{RawMethod, RawType, RawLinks, no_raw_type, no_raw_method, no_raw_links, method_of, type_of, rep_of, links_of}
+use Rattle.table_record.specs.declared.Kind.{Kind}
+use Rattle.table_record.specs.declared.Kind.TheVariants.{Sub, Sup, Closed}
 use Rattle.table_record.specs.declared.Method.{Method}
 use Rattle.table_record.specs.declared.TypeRec.{TypeRec}
 use Rattle.table_record.specs.declared.Links.{Links}
@@ -12,6 +17,22 @@ use Rattle.spec_model.specs.Records.{method_record, type_record, argument_slots}
 pub use Rattle.table_record.specs.Layout.{raw_method_at, raw_type_at, raw_links_at, head_of, raw_table, with_count, method_bytes, head_bytes, spare_bytes, methods_bytes, links_bytes, empty_counts}
 pub use Rattle.table_record.specs.Layout.{type_size, head_size, method_size, link_size, types_size, links_size}
 unfoldable pub use Rattle.table_record.specs.Layout.{raw_methods_at, types_in, links_in, table_in, record_bytes, empty_types, empty_links}
+
+-- The model's option.
+abbrev pub option_of : {A : Type 0} → Option A → Optionᵐ A
+option_of None = none
+option_of (Some x) = some x
+
+-- The code of a kind, and the model's kind.
+abbrev pub kind_code : Kind → ℕ
+kind_code Sub = 0
+kind_code Sup = 1
+kind_code Closed = 2
+
+abbrev pub kind_is : Kind → Kindᵐ
+kind_is Sub = sub
+kind_is Sup = sup
+kind_is Closed = closed
 
 -- The code's records as the model's.
 abbrev pub raw_method : Method → RawMethod

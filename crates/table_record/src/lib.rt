@@ -6,9 +6,9 @@
 ghost use Rattle.std.specs.Prelude.{◌≡◌, suc, ◌+◌, ◌*◌, ◌≤◌, ◌<◌, length, get_or};
 ghost use Rattle.spec_model.specs.Table.{permit, max_methods, max_categories, max_types};
 ghost use Rattle.spec_model.specs.Records.{argument_slots};
-ghost use Rattle.spec_model.specs.Check.{no_raw_type, no_raw_links, state_of};
+ghost use Rattle.spec_model.specs.Check.{no_raw_type, no_raw_links, state_of, kind_of};
 ghost use Rattle.table_record.specs.Store.{types_in, links_in, raw_method, raw_of, raw_in, head_of, raw_links, type_size, head_size, method_size};
-ghost use Rattle.table_record.specs.Store.{ref_as, ref_in, may_stand_as, with_count, empty_counts, empty_method, empty_type, empty_types, empty_links};
+ghost use Rattle.table_record.specs.Store.{kind_code, kind_is, ref_as, ref_in, may_stand_as, with_count, empty_counts, empty_method, empty_type, empty_types, empty_links};
 
 // The bytes of the types of a table, and of its broader links: those of category 0, which names none, are there too.
 pub const TYPE_BYTES: usize = Counts::TYPES * TypeRec::BYTES;
@@ -163,10 +163,38 @@ impl TypeRec {
     }
 }
 
+// The kinds of derived types. In a type's bytes a kind is a code; a code past the last is read as Closed (B5).
+#[derive(Clone, Copy, Debug, PartialEq, Eq)]
+pub enum Kind {
+    Sub = 0,
+    Sup = 1,
+    Closed = 2,
+}
+
+impl Kind {
+    pub fn code(self) -> u8
+        ensures { (result ≡ kind_code self) × (kind_of result ≡ kind_is self) × (result < 3) }
+    {
+        self as u8
+    }
+}
+
+impl From<u8> for Kind {
+    fn from(code: u8) -> Self
+        ensures { kind_is result ≡ kind_of code }
+    {
+        match code {
+            0 => Kind::Sub,
+            1 => Kind::Sup,
+            _ => Kind::Closed,
+        }
+    }
+}
+
 // By which a derived type is known: its kind and the numbers of the two types that it is derived from.
 #[derive(Clone, Copy)]
 pub struct Key {
-    pub kind: u8,
+    pub kind: Kind,
     pub left: usize,
     pub right: usize,
 }
