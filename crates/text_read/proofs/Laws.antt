@@ -1,90 +1,62 @@
 -- Laws over plain values: what a byte more means for a word, a decimal and a list of numbers, and what a line that is read means. The proofs of the functions cite them.
+use Rattle.std.specs.Prelude.{Option, Some, None, Result, Ok, Err, IfOk}
 use mathlib.Core.Path.{◌≡◌, refl, sym, ap, ◌∙◌, subst}
 use mathlib.Core.Bool.{Bool, true, false, ◌&&◌, cond}
 use mathlib.Core.List.{List, [], ◌∷◌, ◌++◌}
 use Prim.Native.Nat.{ℕ, zero, suc, ◌+◌, ◌-◌, ◌*◌, ◌≤◌, ◌<◌}
 use native.Mathlib.Omega.{arith}
 use native.Mathlib.Numerals.{add-one}
-use lib.Dec.{eqb, leb}
+use lib.Dec.{eqb, leb, eqb-suc-suc}
 use lib.ListN.{length, get_or, set, take, drop, drop_of_length-le, length-append}
 use lib.Seq.{take-suc-set, get_or-set_other}
+use lib.Pointwise.{pointwise}
 use borrow.Author.Tests.{le-leb, lt-leb, eq-eqb, ne_eqb}
 use Rattle.spec_model.specs.Basics.{Res, refuse, ok, try, need}
 use Rattle.spec_model.specs.Table.{between}
 use Rattle.spec_model.specs.Refusals.{form, out_of_range}
-use Rattle.spec_sheet.specs.Lines.{Row, row, cut, split, refused, got, line, line_at, first_line, starts, same, keyed}
+use Rattle.spec_sheet.specs.Lines.{Row, row, cut, split, Reader, bind, follow, refused, got, line, line_at, first_line, starts, same, keyed}
 use Rattle.spec_sheet.specs.Numbers.{Scan, fail, took, bind_scan, whole, is_digit, top, limit, digits, number, comma, numbers}
 use Rattle.spec_sheet.specs.Sheet.{number_line}
 use Rattle.spec_model.proofs.Rules.{never}
 use Rattle.spec_sheet.proofs.Steps.{refuse-ok}
-use Rattle.spec_sheet.proofs.Numbers.{is_digit-of}
 use Rattle.spec_sheet.proofs.Lines.{starts-sound}
-use Rattle.text_read.specs.View.{scanned, scan_by, ScanWithin, value_by, AtMost, read_by, GotAtMost, result_by, reading, passed_by, max_numbers}
-use Rattle.text_read.specs.View.{items_of, numbers_of, RestEmpty, no_numbers}
+use Rattle.base_numbers.specs.Refusal.{number_of, res_by}
+use Rattle.base_numbers.specs.declared.refusal.Refusal.{Refusal}
+use Rattle.text_read.specs.View.{scan_by, scan_numbers, ScanWithin, reading_by, placed_by, items_of, numbers_of, RestEmpty, no_numbers, max_numbers}
 use Rattle.text_read.specs.declared.Numbers.{Numbers}
-use Rattle.text_read.specs.declared.Value.{Value}
-use Rattle.text_read.specs.declared.Value.TheVariants.{Refused, Is}
-use Rattle.text_read.specs.declared.Got.{Got}
+use Rattle.text_read.specs.declared.Malformed.{Malformed}
 use Rattle.text_cursor.specs.declared.Cursor.{Cursor}
 use Rattle.text_cursor.specs.View.{LineAt, past}
 use Rattle.text_cursor.proofs.Laws.{past-rest}
 pub use Rattle.text_cursor.proofs.Laws.{from-here}
-use Rattle.text_read.specs.declared.Number.{Number}
-use Rattle.text_read.specs.declared.Number.TheVariants.{Wrong, Right}
 
 -- Past the end nothing is left.
 pub at-end : (l : List ℕ) (i : ℕ) → length l ≤ i → drop i l ≡ []
 at-end l i h = drop_of_length-le l {i = i} h
 
--- Words: so far the line is the word.
-module _ (word l : List ℕ) (i : ℕ) (inv : starts word l ≡ starts (drop i word) (drop i l)) where
-  word-step : i < length word → i < length l → starts word l ≡ eqb (get_or word i 0) (get_or l i 0) && starts (drop (i + 1) word) (drop (i + 1) l)
-  unfolding starts
-  word-step h k = inv ∙ ap (λ z. starts z (drop i l)) (from-here word i h) ∙ ap (λ z. starts (get_or word i 0 ∷ drop (i + 1) word) z) (from-here l i k)
+-- Words: the library's tests are the definitions.
+pub starts-with : (k l : List ℕ) → pointwise eqb k (take (length k) l) ≡ starts k l
+unfolding starts
+starts-with [] l = refl
+starts-with (a ∷ k) [] = refl
+starts-with (a ∷ k) (b ∷ l) = ap (λ z. eqb a b && z) (starts-with k l)
 
-  pub word-other : i < length word → i < length l → (get_or word i 0 ≡ get_or l i 0 → ⊥) → false ≡ starts word l
-  word-other h k n = sym (word-step h k ∙ ap (λ z. z && starts (drop (i + 1) word) (drop (i + 1) l)) (ne_eqb (get_or word i 0) (get_or l i 0) n))
-
-  pub word_next : i < length word → i < length l → get_or word i 0 ≡ get_or l i 0 → starts word l ≡ starts (drop (i + 1) word) (drop (i + 1) l)
-  word_next h k n = word-step h k ∙ ap (λ z. z && starts (drop (i + 1) word) (drop (i + 1) l)) (eq-eqb (get_or word i 0) (get_or l i 0) n)
-
-  pub word-whole : length word ≤ i → true ≡ starts word l
-  unfolding starts
-  word-whole h = sym (inv ∙ ap (λ z. starts z (drop i l)) (at-end word i h))
-
-pub same-long : (k l : List ℕ) (r : Bool) → length l ≡ length k → r ≡ starts k l → r ≡ same k l
-same-long k l r h e = e ∙ and-true (starts k l) ∙ ap (λ z. starts k l && z) (sym (eq-eqb (length l) (length k) h))
+pub same-whole : (k l : List ℕ) → pointwise eqb k l ≡ same k l
+unfolding starts
+same-whole [] [] = refl
+same-whole [] (b ∷ l) = sym (ne_eqb (length (b ∷ l)) 0 (λ e. let f : suc (length l) ≡ 0 = e in absurd (omega arith)))
+same-whole (a ∷ k) [] = refl
+same-whole (a ∷ k) (b ∷ l) =
+    ap (λ z. eqb a b && z) (same-whole k l) ∙ and-assoc (eqb a b) (starts k l) (eqb (length l) (length k)) ∙ ap (λ z. starts (a ∷ k) (b ∷ l) && z) (sym (eqb-suc-suc (length l) (length k)))
   where
-    and-true : (b : Bool) → b ≡ b && true
-    and-true true = refl
-    and-true false = refl
-
-pub same-other : (k l : List ℕ) → (length l ≡ length k → ⊥) → false ≡ same k l
-same-other k l h = and-false (starts k l) ∙ ap (λ z. starts k l && z) (sym (ne_eqb (length l) (length k) h))
-  where
-    and-false : (b : Bool) → false ≡ b && false
-    and-false true = refl
-    and-false false = refl
+    and-assoc : (x y z : Bool) → x && (y && z) ≡ (x && y) && z
+    and-assoc true y z = refl
+    and-assoc false y z = refl
 
 pub starts-length : (k l : List ℕ) → starts k l ≡ true → length k ≤ length l
 starts-length k l h = let e : length l ≡ length k + length (drop (length k) l) = ap length (starts-sound k l h) ∙ length-append k (drop (length k) l) in omega arith
 
--- a line that is shorter than the word
-pub word-short : (word l : List ℕ) → length l < length word → false ≡ starts word l
-word-short word l h = go (starts word l) refl
-  where
-    go : (b : Bool) → starts word l ≡ b → false ≡ b
-    go true e = let k : length word ≤ length l = starts-length word l e in absurd (omega arith)
-    go false e = refl
-
--- Digits.
-low_digit : (b : ℕ) → b < 48 → is_digit b ≡ false
-low_digit b h = ap (λ z. z && leb b 57) (lt-leb 48 b h)
-
-high_digit : (b : ℕ) → 48 ≤ b → 57 < b → is_digit b ≡ false
-high_digit b k h = ap (λ z. z && leb b 57) (le-leb 48 b k) ∙ lt-leb b 57 h
-
--- b is the byte at i
+-- Digits: b is the byte at i
 module _ (l : List ℕ) (i n b : ℕ) (h : i < length l) (e : b ≡ get_or l i 0) where
   digits-here : digits n (drop i l) ≡ cond (is_digit b) (digits (limit (n * 10 + (b - 48))) (drop (i + 1) l)) (took n (drop i l))
   unfolding digits
@@ -92,23 +64,17 @@ module _ (l : List ℕ) (i n b : ℕ) (h : i < length l) (e : b ≡ get_or l i 0
       let d : drop i l ≡ b ∷ drop (i + 1) l = from-here l i h ∙ ap (λ z. z ∷ drop (i + 1) l) (sym e) in
       ap (digits n) d ∙ ap (λ z. cond (is_digit b) (digits (limit (n * 10 + (b - 48))) (drop (i + 1) l)) (took n z)) (sym d)
 
-  digits-stop : is_digit b ≡ false → took n (drop i l) ≡ digits n (drop i l)
+  pub digits-stop : is_digit b ≡ false → took n (drop i l) ≡ digits n (drop i l)
   digits-stop d = sym (digits-here ∙ ap (λ z. cond z (digits (limit (n * 10 + (b - 48))) (drop (i + 1) l)) (took n (drop i l))) d)
 
-  pub digits_low : b < 48 → took n (drop i l) ≡ digits n (drop i l)
-  digits_low k = digits-stop (low_digit b k)
-
-  pub digits-high : 48 ≤ b → 57 < b → took n (drop i l) ≡ digits n (drop i l)
-  digits-high j k = digits-stop (high_digit b j k)
-
-  pub digits_more : (r : ℕ) → 48 ≤ b → b ≤ 57 → r ≡ limit (n * 10 + (b - 48)) → digits r (drop (i + 1) l) ≡ digits n (drop i l)
-  digits_more r j k q =
+  pub digits_more : (r : ℕ) → is_digit b ≡ true → r ≡ limit (n * 10 + (b - 48)) → digits r (drop (i + 1) l) ≡ digits n (drop i l)
+  digits_more r d q =
       ap (λ z. digits z (drop (i + 1) l)) q
-      ∙ sym (digits-here ∙ ap (λ z. cond z (digits (limit (n * 10 + (b - 48))) (drop (i + 1) l)) (took n (drop i l))) (is_digit-of b j k))
+      ∙ sym (digits-here ∙ ap (λ z. cond z (digits (limit (n * 10 + (b - 48))) (drop (i + 1) l)) (took n (drop i l))) d)
 
-pub digits-end : (l : List ℕ) (i n : ℕ) → length l ≤ i → took n (drop i l) ≡ digits n (drop i l)
+pub digits-end : (l : List ℕ) (i n : ℕ) → i ≡ length l → took n (drop (length l) l) ≡ digits n (drop i l)
 unfolding digits
-digits-end l i n h = let e : drop i l ≡ [] = at-end l i h in ap (took n) e ∙ ap (digits n) (sym e)
+digits-end l i n h = let e : drop (length l) l ≡ [] = at-end l (length l) (omega arith) in ap (took n) e ∙ ap (digits n) (sym e) ∙ ap (λ z. digits n (drop z l)) (sym h)
 
 -- One number.
 pub number-none : (l : List ℕ) (at : ℕ) → at ≡ length l → fail ≡ number (drop at l)
@@ -126,33 +92,30 @@ module _ (l : List ℕ) (at b : ℕ) (h : at < length l) (e : b ≡ get_or l at 
   other : (b ≡ 48 → ⊥) → number (drop at l) ≡ cond (is_digit b) (digits (b - 48) (drop (at + 1) l)) fail
   other q = number-here ∙ ap (λ z. cond z (took 0 (drop (at + 1) l)) (cond (is_digit b) (digits (b - 48) (drop (at + 1) l)) fail)) (ne_eqb b 48 q)
 
-  pub number-low : (b ≡ 48 → ⊥) → b < 48 → fail ≡ number (drop at l)
-  number-low q k = sym (other q ∙ ap (λ z. cond z (digits (b - 48) (drop (at + 1) l)) fail) (low_digit b k))
+  pub number-other : (b ≡ 48 → ⊥) → is_digit b ≡ false → fail ≡ number (drop at l)
+  number-other q d = sym (other q ∙ ap (λ z. cond z (digits (b - 48) (drop (at + 1) l)) fail) d)
 
-  pub number-high : (b ≡ 48 → ⊥) → 48 ≤ b → 57 < b → fail ≡ number (drop at l)
-  number-high q j k = sym (other q ∙ ap (λ z. cond z (digits (b - 48) (drop (at + 1) l)) fail) (high_digit b j k))
-
-  pub number_more : (b ≡ 48 → ⊥) → 48 ≤ b → b ≤ 57 → digits (b - 48) (drop (at + 1) l) ≡ number (drop at l)
-  number_more q j k = sym (other q ∙ ap (λ z. cond z (digits (b - 48) (drop (at + 1) l)) fail) (is_digit-of b j k))
+  pub number_more : (b ≡ 48 → ⊥) → is_digit b ≡ true → digits (b - 48) (drop (at + 1) l) ≡ number (drop at l)
+  number_more q d = sym (other q ∙ ap (λ z. cond z (digits (b - 48) (drop (at + 1) l)) fail) d)
 
 -- A number scanned, by its case.
-module _ {A : Type 0} (f : ℕ → A) (l : List ℕ) (t : Number) (S : Scan A) (is : scan_by f l t ≡ S) where
-  pub number-scan-wrong : t ≡ Wrong → fail ≡ S
-  number-scan-wrong e = ap (scan_by f l) (sym e) ∙ is
+module _ {A : Type 0} (f : ℕ → A) (l : List ℕ) (t : Option (ℕ × ℕ)) (S : Scan A) (is : scan_by f l t ≡ S) where
+  pub scan-wrong : t ≡ None → fail ≡ S
+  scan-wrong e = ap (scan_by f l) (sym e) ∙ is
 
-  pub number-scan-right : (n next : ℕ) → t ≡ Right n next → took (f n) (drop next l) ≡ S
-  number-scan-right n next e = ap (scan_by f l) (sym e) ∙ is
+  pub scan-right : (p : ℕ × ℕ) → t ≡ Some p → took (f p.0) (drop p.1 l) ≡ S
+  scan-right p e = ap (scan_by f l) (sym e) ∙ is
 
-pub right-within : (size : ℕ) (t : Number) (n next : ℕ) → t ≡ Right n next → ScanWithin size t → (next ≤ size) × (n ≤ top)
-right-within size t n next e h = subst (ScanWithin size) e h
+pub right-within : (size : ℕ) (t : Option (ℕ × ℕ)) (p : ℕ × ℕ) → t ≡ Some p → ScanWithin size t → (p.1 ≤ size) × (p.0 ≤ top)
+right-within size t p e h = subst (ScanWithin size) e h
 
--- A scan whose form is right, and one whose form is wrong.
-module _ {A : Type 0} (l : List ℕ) (right : Bool) (x : A) (next : ℕ) (S : Scan A) (is : scanned l right x next ≡ S) where
-  pub scan-right : right ≡ true → took x (drop next l) ≡ S
-  scan-right e = ap (λ z. scanned l z x next) (sym e) ∙ is
+-- Several numbers scanned, by their case.
+module _ (l : List ℕ) (t : Option Numbers) (S : Scan (List ℕ)) (is : scan_numbers l t ≡ S) where
+  pub numbers-wrong : t ≡ None → fail ≡ S
+  numbers-wrong e = ap (scan_numbers l) (sym e) ∙ is
 
-  pub scan-wrong : right ≡ false → fail ≡ S
-  scan-wrong e = ap (λ z. scanned l z x next) (sym e) ∙ is
+  pub numbers-right : (x : Numbers) → t ≡ Some x → took (numbers_of x) (drop x.next l) ≡ S
+  numbers-right x e = ap (scan_numbers l) (sym e) ∙ is
 
 -- Several numbers: `count` of them are read, xs, and the rest begins at i.
 module _ (l xs : List ℕ) (max count i : ℕ) (R : Scan (List ℕ)) (inv : numbers (max - count) xs (drop i l) ≡ R) where
@@ -204,24 +167,6 @@ none-empty next (suc zero) h = refl
 none-empty next (suc (suc zero)) h = refl
 none-empty next (suc (suc (suc zero))) h = refl
 none-empty next (suc (suc (suc (suc k)))) h = refl
-
--- What is handed out: no numbers, and those that are read.
-module _ (l : List ℕ) (max : ℕ) where
-  abbrev Within : Numbers → Type 0
-  Within r = (r.next ≤ length l) × (r.count ≤ max) × RestEmpty r × (r.right ≡ true → 1 ≤ r.count)
-
-  abbrev Scanned : Numbers → Scan (List ℕ) → Type 0
-  Scanned r S = (scanned l r.right (numbers_of r) r.next ≡ S) × Within r
-
-  pub none-scanned : (at : ℕ) (r : Numbers) → r ≡ no_numbers at → at ≤ length l → (S : Scan (List ℕ)) → fail ≡ S → Scanned r S
-  none-scanned at r e h S q = subst (λ (t : Numbers). Scanned t S) (sym e) (q, (h, omega arith, none-empty at, λ k. never k))
-
-  pub one-scanned : (r : Numbers) (count next : ℕ) → r.right ≡ true → r.count ≡ count + 1 → r.next ≡ next → next ≤ length l → count < max → RestEmpty r
-      → (S : Scan (List ℕ)) → took (numbers_of r) (drop next l) ≡ S → Scanned r S
-  one-scanned r count next e k i h m z S q = (
-    ap (λ b. scanned l b (numbers_of r) r.next) e ∙ ap (λ n. took (numbers_of r) (drop n l)) i ∙ q,
-    (omega arith, omega arith, z, λ b. omega arith),
-  )
 
 -- A line of a key and a number.
 module _ (key l : List ℕ) (low high : ℕ) where
@@ -292,30 +237,26 @@ module _ {A : Type 0} (f : List ℕ → Res A) (empty : f [] ≡ refuse form) (s
           ap (λ (z : List Row). got x next z) (past-rest s at next p m rs e) ∙ ap (λ (z : ℕ). got x z rs) (p ∙ ap (past at) e)
           ∙ ap (λ z. line_at z at m rs) (q ∙ ap f (h.is ∙ ap first_line e))
 
-  -- the same for an answer with a refusal's number
-  pub line-result : (nr : ℕ) (x : A) (to : ℕ) → result_by nr x ≡ f l → to ≡ cond (eqb nr 0) next at → reading s nr x to ≡ line f at (split (drop at s))
-  line-result nr x to q e = go (eqb nr 0) refl
-    where
-      go : (b : Bool) → eqb nr 0 ≡ b → reading s nr x to ≡ line f at (split (drop at s))
-      go true h =
-          let n : to ≡ next = e ∙ ap (λ z. cond z next at) h in
-          let a : ok x ≡ f l = sym (ap (λ z. cond z (ok x) (refuse nr)) h) ∙ q in
-          ap (λ z. cond z (got x to (split (drop to s))) (refused nr to)) h ∙ ap (λ (z : ℕ). got x z (split (drop z s))) n ∙ line-accepted x a
-      go false h =
-          let n : to ≡ at = e ∙ ap (λ z. cond z next at) h in
-          let a : refuse nr ≡ f l = sym (ap (λ z. cond z (ok x) (refuse nr)) h) ∙ q in
-          ap (λ z. cond z (got x to (split (drop to s))) (refused nr to)) h ∙ ap (λ (z : ℕ). refused nr z) n ∙ line_refused nr a
+-- and as the cursor goes past it; g says what the value means
+module _ {T A : Type 0} (g : T → A) (f : List ℕ → Res A) (empty : f [] ≡ refuse form) (s : List ℕ) (c d : Cursor)
+    (p : d.at ≡ past c.at (split (drop c.at s))) (l : List ℕ) (h : LineAt s c.at l) where
+  pub line_read : (v : Result T Refusal) (r : Result (T × Cursor) Malformed) → res_by g v ≡ f l → r ≡ placed_by v c d
+      → reading_by g s r ≡ line f c.at (split (drop c.at s))
+  line_read (Err e) r q w = ap (reading_by g s) w ∙ line_refused f empty s c.at d.at p l h (number_of e) q
+  line_read (Ok x) r q w = ap (reading_by g s) w ∙ line-accepted f empty s c.at d.at p l h (g x) q
 
--- and for one whose number g reads
-module _ {A : Type 0} (f : List ℕ → Res A) (empty : f [] ≡ refuse form) (s : List ℕ) (c d : Cursor)
-    (p : d.at ≡ past c.at (split (drop c.at s))) (l : List ℕ) (h : LineAt s c.at l) (g : ℕ → A) where
-  pub line_read : (v : Value) (r : Got) → value_by g v ≡ f l → r ≡ passed_by v d → read_by g s c.at r ≡ line f c.at (split (drop c.at s))
-  line_read (Refused k) r q e = ap (read_by g s c.at) e ∙ line_refused f empty s c.at d.at p l h k q
-  line_read (Is n) r q e = ap (read_by g s c.at) e ∙ line-accepted f empty s c.at d.at p l h (g n) q
+-- what is so of a line's value is so of it with the cursor
+pub if_placed : {T : Type 0} (P : T → Type 0) (c d : Cursor) (v : Result T Refusal) (r : Result (T × Cursor) Malformed) → IfOk v P → r ≡ placed_by v c d → IfOk r (λ x. P x.0)
+if_placed P c d (Err e) r h w = subst (λ z. IfOk z (λ x. P x.0)) (sym w) h
+if_placed P c d (Ok x) r h w = subst (λ z. IfOk z (λ x. P x.0)) (sym w) h
 
-pub passed-at-most : (high : ℕ) (d : Cursor) (v : Value) (r : Got) → AtMost high v → r ≡ passed_by v d → GotAtMost high r
-passed-at-most high d (Refused k) r h e = subst (GotAtMost high) (sym e) h
-passed-at-most high d (Is n) r h e = subst (GotAtMost high) (sym e) h
+-- A line read and then others, as `?` puts them together: a refusal of the first is that of all, and what it gives goes on behind it.
+module _ {T A B : Type 0} (f : T → A) (s : List ℕ) (r : Result (T × Cursor) Malformed) (p : Reader A) (k : A → Reader B) (at : ℕ) (rs : List Row) (is : reading_by f s r ≡ p at rs) where
+  pub then_refused : (e : Malformed) → r ≡ Err e → refused (number_of e.refusal) e.at ≡ bind p k at rs
+  then_refused e w = ap (λ z. follow z k) (ap (reading_by f s) (sym w) ∙ is)
+
+  pub then_read : (x : T) (c : Cursor) → r ≡ Ok (x, c) → k (f x) c.at (split (drop c.at s)) ≡ bind p k at rs
+  then_read x c w = ap (λ z. follow z k) (ap (reading_by f s) (sym w) ∙ is)
 
 pub number-empty : (key : List ℕ) (low high : ℕ) → number_line key low high [] ≡ refuse form
 unfolding number_line keyed starts number

@@ -2,28 +2,20 @@
 // Contracts say what is read in the words of crate `spec_sheet`: scans of a line, and readings of the lines from a byte offset on (specs/View.antt).
 #![tactic(auto)]
 
-ghost use Rattle.std.specs.Prelude.{◌≡◌, true, cond, [], ◌+◌, ◌*◌, ◌≤◌, ◌<◌, eqb, length, set, drop};
+ghost use Rattle.std.specs.Prelude.{◌≡◌, [], ◌+◌, ◌*◌, ◌≤◌, ◌<◌, length, set, drop, IfOk, OnOk, IfSome};
+ghost use Rattle.base_numbers.specs.Refusal.{res_by};
 ghost use Rattle.spec_sheet.specs.Lines.{split, line, starts, same};
-ghost use Rattle.spec_sheet.specs.Numbers.{top, limit, digits, number, numbers};
+ghost use Rattle.spec_sheet.specs.Numbers.{took, top, limit, digits, number, numbers};
 ghost use Rattle.spec_sheet.specs.Sheet.{number_line};
-ghost use Rattle.text_read.specs.View.{scanned, scan_by, ScanWithin, value_by, AtMost, read_by, GotAtMost, passed_by, items_of};
-ghost use Rattle.text_read.specs.View.{numbers_of, RestEmpty, no_numbers, max_numbers};
+ghost use Rattle.text_read.specs.View.{scan_by, scan_numbers, ScanWithin, reading_by, placed_by, items_of, numbers_of, RestEmpty, no_numbers, max_numbers};
 
-use base_numbers::{refusal, wide};
+use base_numbers::refusal::Refusal;
 use text_cursor::{Cursor, between, next_line};
 
-// A number scanned: the form is wrong, or the number and where the bytes behind it start.
-#[derive(Clone, Copy)]
-pub enum Number {
-    Wrong,
-    Right(usize, usize),
-}
-
-// Up to four numbers with commas between, scanned: whether the form is right, how many, the numbers, and where the bytes behind them start. Those that are not
-// there are 0. They are no array: what is stored by an index and then read as a whole has to wait for its stores.
+// Up to four numbers with commas between, scanned: how many, the numbers, and where the bytes behind them start. Those that are not there are 0.
+// They are no array: what is stored by an index and then read as a whole has to wait for its stores.
 #[derive(Clone, Copy)]
 pub struct Numbers {
-    pub right: bool,
     pub count: usize,
     pub first: usize,
     pub second: usize,
@@ -32,18 +24,11 @@ pub struct Numbers {
     pub next: usize,
 }
 
-// The result of one line: the number of a refusal, or the line's value.
-#[derive(Clone, Copy)]
-pub enum Value {
-    Refused(usize),
-    Is(usize),
-}
-
-// The next line of a text: the number of a refusal, which stands at the cursor that was handed in; or the line's value and the cursor behind it.
-#[derive(Clone, Copy)]
-pub enum Got {
-    Refused(usize),
-    At(usize, Cursor),
+// A line that is refused: why, and the offset at which it begins (S31).
+#[derive(Clone, Copy, Debug, PartialEq, Eq)]
+pub struct Malformed {
+    pub refusal: Refusal,
+    pub at: usize,
 }
 
 // A larger number counts as this one, so that digits of any length are read without overflow (S2).
@@ -56,27 +41,14 @@ const TENTH: usize = 922337203685477580;
 pub fn begins(l: &[u8], word: &[u8]) -> bool
     ensures { result ≡ starts word.now l.now }
 {
-    if l.len() < word.len() {
-        return false;
-    }
-    let mut i: usize = 0;
-    while i < word.len() {
-        if word[i] != l[i] {
-            return false;
-        }
-        i += 1;
-    }
-    true
+    l.starts_with(word)
 }
 
 // Whether a line is a word.
 pub fn is_word(l: &[u8], word: &[u8]) -> bool
     ensures { result ≡ same word.now l.now }
 {
-    if l.len() == word.len() {
-        return begins(l, word);
-    }
-    false
+    word == l
 }
 
 // A digit more behind those that made n.
@@ -90,56 +62,47 @@ fn more(n: usize, d: usize) -> usize
     n * 10 + d
 }
 
-// The digits from `at` on, behind those that made a.
-fn digits_at(l: &[u8], at: usize, a: usize) -> Number
+// The digits from `at` on, behind those that made a: the number, and where the bytes behind it start.
+fn digits_at(l: &[u8], at: usize, a: usize) -> (usize, usize)
     requires { (at ≤ length l.now) × (a ≤ top) }
-    ensures is { scan_by (λ n. n) l.now result ≡ digits a (drop at l.now) }
-    ensures within { ScanWithin (length l.now) result }
+    ensures is { took result.0 (drop result.1 l.now) ≡ digits a (drop at l.now) }
+    ensures within { (result.1 ≤ length l.now) × (result.0 ≤ top) }
 {
-    let mut i = at;
     let mut n = a;
-    while i < l.len() {
-        let b = wide(l[i]);
-        if b < 48 {
-            return Number::Right(n, i);
+    for i in at..l.len() {
+        let b = l[i];
+        if !b.is_ascii_digit() {
+            return (n, i);
         }
-        if 57 < b {
-            return Number::Right(n, i);
-        }
-        n = more(n, b - 48);
-        i += 1;
+        n = more(n, usize::from(b - b'0'));
     }
-    Number::Right(n, i)
+    (n, l.len())
 }
 
-// The number that stands at `at`. A 0 is the whole number: what follows it is not its digit (S3).
-pub fn number_at(l: &[u8], at: usize) -> Number
+// The number that stands at `at`, and where the bytes behind it start. A 0 is the whole number: what follows it is not its digit (S3).
+pub fn number_at(l: &[u8], at: usize) -> Option<(usize, usize)>
     requires { at ≤ length l.now }
     ensures is { scan_by (λ n. n) l.now result ≡ number (drop at l.now) }
     ensures within { ScanWithin (length l.now) result }
 {
     if at == l.len() {
-        return Number::Wrong;
+        return None;
     }
-    let b = wide(l[at]);
-    if b == 48 {
-        return Number::Right(0, at + 1);
+    let b = l[at];
+    if b == b'0' {
+        return Some((0, at + 1));
     }
-    if b < 48 {
-        return Number::Wrong;
+    if !b.is_ascii_digit() {
+        return None;
     }
-    if 57 < b {
-        return Number::Wrong;
-    }
-    digits_at(l, at + 1, b - 48)
+    Some(digits_at(l, at + 1, usize::from(b - b'0')))
 }
 
-// no numbers: the form is wrong, or none is read yet
+// no numbers: none is read yet
 pub fn no_numbers(next: usize) -> Numbers
     ensures { result ≡ no_numbers next }
 {
     Numbers {
-        right: false,
         count: 0,
         first: 0,
         second: 0,
@@ -152,105 +115,79 @@ pub fn no_numbers(next: usize) -> Numbers
 // One number more, behind which the bytes go on at `next`.
 fn with_number(t: Numbers, n: usize, next: usize) -> Numbers
     requires { t.count < max_numbers }
-    ensures { (items_of result ≡ set (items_of t) t.count n) × (result.count ≡ t.count + 1) × (result.right ≡ true) × (result.next ≡ next) }
+    ensures { (items_of result ≡ set (items_of t) t.count n) × (result.count ≡ t.count + 1) × (result.next ≡ next) }
 {
     let mut r = t;
-    r.right = true;
     r.count = t.count + 1;
     r.next = next;
-    if t.count == 0 {
-        r.first = n;
-        return r;
+    match t.count {
+        0 => r.first = n,
+        1 => r.second = n,
+        2 => r.third = n,
+        _ => r.fourth = n,
     }
-    if t.count == 1 {
-        r.second = n;
-        return r;
-    }
-    if t.count == 2 {
-        r.third = n;
-        return r;
-    }
-    r.fourth = n;
     r
 }
 
 // One number or more with commas between, at most max: one too many is a fault of form (S11).
-pub fn numbers_at(l: &[u8], at: usize, max: usize) -> Numbers
+pub fn numbers_at(l: &[u8], at: usize, max: usize) -> Option<Numbers>
     requires { (at ≤ length l.now) × (max ≤ max_numbers) }
-    ensures is { scanned l.now result.right (numbers_of result) result.next ≡ numbers max [] (drop at l.now) }
-    ensures within { (result.next ≤ length l.now) × (result.count ≤ max) × RestEmpty result × (result.right ≡ true → 1 ≤ result.count) }
+    ensures is { scan_numbers l.now result ≡ numbers max [] (drop at l.now) }
+    ensures within { IfSome result (λ t. (t.next ≤ length l.now) × (1 ≤ t.count) × (t.count ≤ max) × RestEmpty t) }
 {
     let mut i = at;
     let mut t = no_numbers(at);
     while t.count < max {
-        let w = number_at(l, i);
-        let Number::Right(n, e) = w else {
-            return no_numbers(at);
-        };
-        t = with_number(t, n, e);
-        if e == l.len() {
-            return t;
+        let (n, next) = number_at(l, i)?;
+        t = with_number(t, n, next);
+        if next == l.len() || l[next] != b',' {
+            return Some(t);
         }
-        if l[e] != b',' {
-            return t;
-        }
-        i = e + 1;
+        i = next + 1;
     }
-    no_numbers(at)
+    None
 }
 
-// Where the cursor goes on from behind a line that is accepted, whose refusal is 0: a line that is refused isn't passed.
-pub fn past_accepted(refusal: usize, c: Cursor, d: Cursor) -> Cursor
-    ensures { result.at ≡ cond (eqb refusal 0) d.at c.at }
-{
-    if refusal != 0 {
-        return c;
-    }
-    d
-}
-
-// A line's result with the cursor behind the line: a line that is refused isn't passed (S31).
-pub fn passed(v: Value, d: Cursor) -> Got
-    ensures { result ≡ passed_by v d }
+// What one line gave, with the cursor d behind it: a line that is refused isn't passed, and is told by its offset (S31).
+pub fn placed<T>(v: Result<T, Refusal>, c: Cursor, d: Cursor) -> Result<(T, Cursor), Malformed>
+    ensures { result ≡ placed_by v c d }
 {
     match v {
-        Value::Refused(k) => Got::Refused(k),
-        Value::Is(n) => Got::At(n, d),
+        Ok(x) => Ok((x, d)),
+        Err(refusal) => Err(Malformed { refusal, at: c.at }),
     }
 }
 
 // A line of a key and one number from low to high (S29).
-pub fn read_number(l: &[u8], key: &[u8], low: usize, high: usize) -> Value
-    ensures is { value_by (λ n. n) result ≡ number_line key.now low high l.now }
-    ensures within { AtMost high result }
+pub fn read_number(l: &[u8], key: &[u8], low: usize, high: usize) -> Result<usize, Refusal>
+    ensures is { res_by (λ n. n) result ≡ number_line key.now low high l.now }
+    ensures within { IfOk result (λ n. n ≤ high) }
 {
     if !begins(l, key) {
-        return Value::Refused(refusal::FORM);
+        return Err(Refusal::Form);
     }
-    let t = number_at(l, key.len());
-    let Number::Right(n, next) = t else {
-        return Value::Refused(refusal::FORM);
-    };
+    let (n, next) = number_at(l, key.len()).ok_or(Refusal::Form)?;
     if next < l.len() {
-        return Value::Refused(refusal::FORM);
+        return Err(Refusal::Form);
     }
-    if n < low {
-        return Value::Refused(refusal::OUT_OF_RANGE);
+    if n < low || high < n {
+        return Err(Refusal::OutOfRange);
     }
-    if high < n {
-        return Value::Refused(refusal::OUT_OF_RANGE);
-    }
-    Value::Is(n)
+    Ok(n)
 }
 
 // The next line: a key and one number from low to high.
-pub fn next_number(s: &[u8], c: Cursor, key: &[u8], low: usize, high: usize) -> Got
-    ensures is { read_by (λ n. n) s.now c.at result
+pub fn next_number(
+    s: &[u8],
+    c: Cursor,
+    key: &[u8],
+    low: usize,
+    high: usize,
+) -> Result<(usize, Cursor), Malformed>
+    ensures is { reading_by (λ n. n) s.now result
         ≡ line (number_line key.now low high) c.at (split (drop c.at s.now)) }
-    ensures within { GotAtMost high result }
+    ensures within { IfOk result (λ r. r.0 ≤ high) }
 {
     let d = next_line(s, c);
-    let l = between(s, c, d);
-    let v = read_number(l, key, low, high);
-    passed(v, d)
+    placed(read_number(between(s, c, d), key, low, high), c, d)
 }

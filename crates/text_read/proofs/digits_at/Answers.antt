@@ -1,28 +1,21 @@
-use mathlib.Core.Path.{◌∙◌}
+-- A byte that is no digit ends the number, and so does the line's end; a digit stands behind those read.
+use mathlib.Core.Bool.{not}
+use mathlib.Core.Path.{ap, sym, refl, ◌∙◌}
+use Prim.Native.Nat.{◌+◌, ◌*◌}
 use native.Mathlib.Omega.{arith}
-use Rattle.text_read.proofs.Laws.{digits_low, digits-high, digits_more, digits-end}
+use borrow.Author.Tests.{not-true, not-false}
+use Rattle.spec_sheet.specs.Numbers.{limit}
+use Rattle.text_read.proofs.Laws.{digits-stop, digits_more, digits-end}
 use Rattle.text_read.proofs.digits_at.Goals as goal
 
-pub returns-then-b-lt48 : goal.returns-then-b-lt48
-returns-then-b-lt48 c =
-    let c3 = c in
-    let c4 = c3 in
-    record { is = digits_low _ _ _ _ c3.loop-i-test.true c.wide-b.ensures.0 c.if-b-lt48.true ∙ c4.loop-i.invariant.2; within = (omega arith, omega arith) }
-
-pub returns-then-b-gt57 : goal.returns-then-b-gt57
-returns-then-b-gt57 c =
-    let c2 = c in
-    let c4 = c2 in
-    let c5 = c4 in
-    record { is = digits-high _ _ _ _ c4.loop-i-test.true c2.wide-b.ensures.0 c.if-b-lt48.false c.if-b-gt57.true ∙ c5.loop-i.invariant.2; within = (omega arith, omega arith) }
+pub returns-then-not-is_ascii_digit-clause-is : goal.returns-then-not-is_ascii_digit-clause-is
+returns-then-not-is_ascii_digit-clause-is c =
+    digits-stop _ _ _ _ c.loop-i-test.true refl (sym c.is_ascii_digit.ensures.value ∙ not-true c.is_ascii_digit.result (ap not c.if-not-is_ascii_digit.true)) ∙ c.loop-i.invariant.1
 
 pub loop-i-preserved : goal.loop-i-preserved
 loop-i-preserved c =
-    let c2 = c in
-    let c3 = c2 in
-    let c5 = c3 in
-    let c6 = c5 in
-    (omega arith, omega arith, digits_more _ _ _ _ c5.loop-i-test.true c3.wide-b.ensures.0 _ c2.if-b-lt48.false c.if-b-gt57.false c.more-n.ensures ∙ c6.loop-i.invariant.2)
+    let digit = sym c.is_ascii_digit.ensures.value ∙ c.if-not-is_ascii_digit.false in
+    (omega (arith, c.more-n.ensures), digits_more _ _ _ _ c.loop-i-test.true refl _ digit (c.more-n.ensures ∙ ap (λ z. limit (c.loop-i.n * 10 + z)) c.from.ensures) ∙ c.loop-i.invariant.1)
 
-pub returns : goal.returns
-returns c = record { is = digits-end _ _ _ c.loop-i-test.false ∙ c.loop-i.invariant.2; within = (omega arith, omega arith) }
+pub returns-clause-is : goal.returns-clause-is
+returns-clause-is c = digits-end c.args.l.now c.loop-i.i _ (omega arith) ∙ c.loop-i.invariant.1

@@ -1,40 +1,30 @@
 -- A number by its first byte: none, a 0, which is whole (S3), or a digit, behind which the others are read.
-use mathlib.Core.Path.{◌∙◌}
-use Prim.Native.Nat.{◌<◌}
+use mathlib.Core.Bool.{not}
+use mathlib.Core.Path.{ap, sym, refl, ◌≡◌, ◌∙◌}
+use Prim.Native.Nat.{◌+◌, ◌<◌, ◌-◌}
 use native.Mathlib.Omega.{arith}
-use lib.ListN.{length}
-use Rattle.text_read.proofs.Laws.{number-none, number-zero, number-low, number-high, number_more}
+use lib.ListN.{length, get_or, drop}
+use borrow.Author.Tests.{not-true}
+use Rattle.spec_sheet.specs.Numbers.{digits}
+use Rattle.text_read.proofs.Laws.{number-none, number-zero, number-other, number_more}
 use Rattle.text_read.proofs.number_at.Goals as goal
 
-pub returns-then-at-l : goal.returns-then-at-l
-returns-then-at-l c = record { is = number-none _ _ c.if-at-l.true; within = tt }
+pub returns-then-at-l-clause-is : goal.returns-then-at-l-clause-is
+returns-then-at-l-clause-is c = number-none _ _ c.if-at-l.true
 
-pub returns-then-b-eq48 : goal.returns-then-b-eq48
-returns-then-b-eq48 c =
-    let c5 = c in
-    let h : c5.args.at < length c5.args.l.now = omega arith in record { is = number-zero _ _ _ h c.wide-b.ensures.0 c.if-b-eq48.true; within = (omega arith, omega arith) }
+pub returns-then-b-eq48-clause-is : goal.returns-then-b-eq48-clause-is
+returns-then-b-eq48-clause-is c =
+    let h : c.args.at < length c.args.l.now = omega arith in
+    number-zero _ _ _ h refl c.if-b-eq48.true
 
-pub returns-then-b-lt48 : goal.returns-then-b-lt48
-returns-then-b-lt48 c =
-    let c2 = c in
-    let c6 = c2 in
-    let h : c6.args.at < length c6.args.l.now = omega arith in record { is = number-low _ _ _ h c2.wide-b.ensures.0 c.if-b-eq48.false c.if-b-lt48.true; within = tt }
+pub returns-then-not-is_ascii_digit-clause-is : goal.returns-then-not-is_ascii_digit-clause-is
+returns-then-not-is_ascii_digit-clause-is c =
+    let h : c.args.at < length c.args.l.now = omega arith in
+    number-other _ _ _ h refl c.if-b-eq48.false (sym c.is_ascii_digit.ensures.value ∙ not-true c.is_ascii_digit.result (ap not c.if-not-is_ascii_digit.true))
 
-pub returns-then-b-gt57 : goal.returns-then-b-gt57
-returns-then-b-gt57 c =
-    let c2 = c in
-    let c3 = c2 in
-    let c7 = c3 in
-    let h : c7.args.at < length c7.args.l.now = omega arith in record { is = number-high _ _ _ h c3.wide-b.ensures.0 c2.if-b-eq48.false c.if-b-lt48.false c.if-b-gt57.true; within = tt }
-
-pub returns : goal.returns
-returns c =
-    let c2 = c in
-    let c3 = c2 in
-    let c4 = c3 in
-    let c8 = c4 in
-    let h : c8.args.at < length c8.args.l.now = omega arith in record {
-      is = c.digits_at.ensures.is
-          ∙ number_more _ _ _ h c4.wide-b.ensures.0 c3.if-b-eq48.false c2.if-b-lt48.false c.if-b-gt57.false;
-      within = c.digits_at.ensures.within;
-    }
+pub returns-clause-is : goal.returns-clause-is
+returns-clause-is c =
+    let a = c.args in
+    let h : a.at < length a.l.now = omega arith in
+    c.digits_at.ensures.is ∙ ap (λ z. digits z (drop (a.at + 1) a.l.now)) c.from.ensures
+    ∙ number_more _ _ _ h refl c.if-b-eq48.false (sym c.is_ascii_digit.ensures.value ∙ c.if-not-is_ascii_digit.false)
