@@ -6,16 +6,10 @@ use Prim.Native.Nat.{ℕ, zero, suc, ◌-◌, ◌≤◌, ◌<◌}
 use native.Mathlib.Omega.{arith}
 use lib.Dec.{eqb}
 use borrow.Author.Tests.{ne_eqb}
-use Rattle.spec_model.specs.Table.{unavail, is_ref, permit, is_avail, closed}
+use Rattle.spec_model.specs.Table.{unavail, is_ref, is_avail, closed}
 use Rattle.spec_model.specs.Check.{RawType, state_of, rep_of, kind_of, answer_of}
 use Rattle.spec_model.specs.Records.{state_code}
 use Rattle.table_record.specs.Store.{may_stand_as}
-
-pub permit-code : (x : ℕ) → (x ≡ 1 → ⊥) → eqb x 2 ≡ permit (state_of x)
-permit-code zero h = refl
-permit-code (suc zero) h = absurd (h refl)
-permit-code (suc (suc zero)) h = refl
-permit-code (suc (suc (suc x))) h = ne_eqb (suc (suc (suc x))) 2 (λ e. let w : suc (suc (suc x)) ≡ 2 = e in omega arith)
 
 pub number-rep : (r : ℕ) → (r ≡ 0 → ⊥) → is_ref (rep_of r) ≡ false
 number-rep zero p = absurd (p refl)

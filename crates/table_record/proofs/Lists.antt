@@ -9,7 +9,7 @@ use native.Mathlib.Numerals.{add-one}
 use native.Mathlib.Omega.{arith}
 use lib.Dec.{ltb}
 use borrow.Author.Tests.{ltb-true, ltb-false}
-use lib.ListN.{length, get_or, set, replicate, length-set, length-replicate, replicate-append-replicate}
+use lib.ListN.{length, get_or, set, length-set}
 use lib.Seq.{sets, get_or-set_same, get_or-set_other}
 use Rattle.spec_model.specs.Basics.{from}
 pub use Rattle.spec_model.proofs.Lists.{length_from, from_first, from-same, is-from}
@@ -81,13 +81,6 @@ pub seven : (b : List ℕ) (at x₀ x₁ x₂ x₃ x₄ x₅ x₆ : ℕ) → set
 seven b at x₀ x₁ x₂ x₃ x₄ x₅ x₆ =
     let e : at + 6 ≡ suc (suc (suc (suc (suc (suc at))))) = omega arith in
     ap (λ (l : List ℕ). set l (at + 6) x₆) (six b at x₀ x₁ x₂ x₃ x₄ x₅) ∙ ap (λ (k : ℕ). set (sets b at (x₀ ∷ x₁ ∷ x₂ ∷ x₃ ∷ x₄ ∷ x₅ ∷ [])) k x₆) e
-
--- A run of equal stores, one longer.
-pub run-next : (b : List ℕ) (at j v : ℕ) → set (sets b at (replicate j v)) (at + j) v ≡ sets b at (replicate (j + 1) v)
-run-next b at j v =
-    let e : at + length (replicate j v) ≡ at + j = ap (λ (k : ℕ). at + k) (length-replicate j v) in
-    ap (λ (k : ℕ). sets (sets b at (replicate j v)) k (v ∷ [])) (sym e)
-    ∙ sym (sets-append b at (replicate j v) (v ∷ [])) ∙ ap (sets b at) (replicate-append-replicate j 1 v)
 
 -- A list that a loop fills from the front: what holds of each element so far, with its number, holds after one store more.
 pub set_next : {A : Type 0} (P : ℕ → A → Type 0) (l : List A) (j : ℕ) (v d : A) → j < length l → ((k : ℕ) → k < j → P k (get_or l k d)) → P j v → (k : ℕ) → k < j + 1

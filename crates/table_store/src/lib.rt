@@ -53,11 +53,7 @@ fn put_spare(b: &mut [u8; TYPE_BYTES], at: usize)
     requires { at + spare_size ≤ types_size }
     ensures { b.new ≡ sets b.old at spare_bytes }
 {
-    let mut j: usize = 0;
-    while j < Head::SPARE {
-        b[at + j] = 0;
-        j += 1;
-    }
+    b[at..at + Head::SPARE].fill(0);
 }
 
 // Store t as type i: its whole record, the spare bytes too.
@@ -68,10 +64,7 @@ pub fn put_type(b: &mut [u8; TYPE_BYTES], i: usize, t: TypeRec)
     let at = i * TypeRec::BYTES;
     put_head(b, at, t.head);
     put_spare(b, at + Head::NUMBERS);
-    let mut j: usize = 0;
-    while j < Counts::METHODS {
-        let m = t.methods[j];
-        put_method(b, at + Head::BYTES + j * Method::BYTES, m);
-        j += 1;
+    for (j, m) in t.methods.iter().enumerate() {
+        put_method(b, at + Head::BYTES + j * Method::BYTES, *m);
     }
 }

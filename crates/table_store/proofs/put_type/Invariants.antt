@@ -1,7 +1,7 @@
 -- The invariant: behind head and spare bytes stand the bytes of the methods so far. Rests on `run_more` and `record-parts`.
 use mathlib.Core.List.{map}
 use mathlib.Core.Path.{◌≡◌}
-use Prim.Native.Nat.{ℕ, ◌≤◌, ◌<◌, ◌-◌, ◌*◌, ◌+◌}
+use Prim.Native.Nat.{ℕ, ◌<◌, ◌*◌, ◌+◌}
 use lib.Seq.{sets}
 use lib.ListN.{length, get_or, take}
 use Rattle.spec_model.specs.Table.{max_methods}
@@ -12,9 +12,6 @@ use Rattle.table_record.specs.Layout.{type_size, head_size}
 use Rattle.table_store.proofs.put_type.Given as goal
 
 abbrev pub invariant-loop-j : goal.invariant-loop-j
-invariant-loop-j l = (l.j ≤ max_methods) × (l.at ≡ l.i * type_size) × (length l.t.methods ≡ max_methods)
-    × (l.b ≡ sets l.initial.b (l.at + head_size) (methods_bytes (take l.j (map raw_method l.t.methods))))
-    × ((k : ℕ) → k < l.j → length (get_or l.t.methods k absent).args ≡ argument_slots)
-
-abbrev pub decreases-loop-j : goal.decreases-loop-j
-decreases-loop-j l = max_methods - l.j
+invariant-loop-j l = (l.at ≡ l.i * type_size) × (length l.m-items ≡ max_methods)
+    × (l.b ≡ sets l.initial.b (l.at + head_size) (methods_bytes (take l.j (map raw_method l.m-items))))
+    × ((k : ℕ) → k < l.j → length (get_or l.m-items k absent).args ≡ argument_slots)
