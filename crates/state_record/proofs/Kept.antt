@@ -18,10 +18,10 @@ use Rattle.table_record.specs.declared.Counts.{Counts}
 use Rattle.table_record.specs.Limits.{Checked}
 use Rattle.table_record.specs.Layout.{types_size}
 use Rattle.table_record.proofs.Lists.{from_last}
-use Rattle.state_record.specs.declared.Places.{Places}
-use Rattle.state_record.specs.declared.Calls.{Calls}
+use Rattle.state_record.specs.Counted.{Places}
+use Rattle.state_record.specs.Counted.{Calls}
 use Rattle.state_record.specs.Whole.{Whole, whole}
-use Rattle.state_record.specs.View.{call_of, blank_call, places_in, calls_in, is_object, behind_of, no_calls, state_loaded, with_types}
+use Rattle.state_record.specs.View.{seen, call_of, blank_call, places_in, calls_in, is_object, behind_of, no_calls, state_loaded, with_types}
 use Rattle.state_record.specs.Sound.{Descending, Typed, MayCall, Sound}
 use Rattle.state_record.proofs.Laws.{places-length, calls-length}
 
@@ -50,7 +50,7 @@ module _ (ps qs : Places) (x : Placeᵐ) (count : qs.count ≡ ps.count + 1) (e 
 
 -- the state of a loaded sheet
 none_made : (k : ℕ) → made_by k (calls_in no_calls) ≡ 0
-unfolding calls_in from
+unfolding seen from
 none_made k = refl
 
 pub loaded-sound : (types links : List ℕ) (counts : Counts) → length types ≡ types_size → Checked links counts → Sound (whole types (state_loaded links counts))
@@ -81,7 +81,7 @@ abbrev pub called : Calls → ℕ → Callᵐ
 called js j = call_of (get_or js.list j blank_call)
 
 pub calls-from : (js : Calls) → calls_in js ≡ from js.count 0 (called js)
-unfolding calls_in
+unfolding seen
 calls-from js = refl
 
 pub ended : (j n : ℕ) → j ≤ n → n ≤ j → j ≡ n

@@ -15,11 +15,11 @@ use Rattle.table_record.specs.Store.{table_in}
 use Rattle.state_record.specs.declared.Cell.{Cell}
 use Rattle.state_record.specs.declared.PlaceRec.{PlaceRec}
 use Rattle.state_record.specs.declared.Call.{Call}
-use Rattle.state_record.specs.declared.Cells.{Cells}
-use Rattle.state_record.specs.declared.Places.{Places}
-use Rattle.state_record.specs.declared.Calls.{Calls}
+use Rattle.state_record.specs.Counted.{Cells}
+use Rattle.state_record.specs.Counted.{Places}
+use Rattle.state_record.specs.Counted.{Calls}
 use Rattle.state_record.specs.Whole.{Whole as State}
-use Rattle.state_record.specs.View.{cell_of, place_of, call_of, blank_cell, blank_place, blank_call, cells_in, places_in, calls_in, cell_added, place_added, call_added, call_answered, answered_as}
+use Rattle.state_record.specs.View.{seen, cell_of, place_of, call_of, blank_cell, blank_place, blank_call, cells_in, places_in, calls_in, cell_added, place_added, call_added, call_answered, answered_as}
 use Rattle.state_record.specs.View.{system_in}
 use Rattle.state_record.proofs.Lists.{seen-length, seen_at, seen-added, seen-set}
 
@@ -27,49 +27,39 @@ abbrev rec_of : PlaceRec → Placeᵐ
 rec_of p = place_of p.place
 
 pub cells-length : (cs : Cells) → length (cells_in cs) ≡ cs.count
-unfolding cells_in
-cells-length cs = seen-length cell_of blank_cell cs.count cs.list
+cells-length cs = seen-length cell_of blank_cell cs
 
 pub cell-is : (cs : Cells) (k : ℕ) → k < cs.count → get_or (cells_in cs) k no_cell ≡ cell_of (get_or cs.list k blank_cell)
-unfolding cells_in
-cell-is cs k h = seen_at cell_of blank_cell cs.count cs.list k no_cell h
+cell-is cs k h = seen_at cell_of blank_cell cs k no_cell h
 
 pub cells-added : (cs : Cells) (c : Cell) → cs.count < length cs.list → cells_in (cell_added cs c) ≡ cells_in cs ++ (cell_of c ∷ [])
-unfolding cells_in
-cells-added cs c h = seen-added cell_of blank_cell cs.count cs.list c h
+cells-added cs c h = seen-added cell_of blank_cell cs c h
 
 pub places-length : (ps : Places) → length (places_in ps) ≡ ps.count
-unfolding places_in
-places-length ps = seen-length rec_of blank_place ps.count ps.list
+places-length ps = seen-length rec_of blank_place ps
 
 pub place_is : (ps : Places) (p : ℕ) → p < ps.count → place_at (places_in ps) p ≡ place_of (get_or ps.list p blank_place).place
-unfolding places_in
-place_is ps p h = seen_at rec_of blank_place ps.count ps.list p no_place h
+place_is ps p h = seen_at rec_of blank_place ps p no_place h
 
 pub places-added : (ps : Places) (p : PlaceRec) → ps.count < length ps.list → places_in (place_added ps p) ≡ places_in ps ++ (place_of p.place ∷ [])
-unfolding places_in
-places-added ps p h = seen-added rec_of blank_place ps.count ps.list p h
+places-added ps p h = seen-added rec_of blank_place ps p h
 
 pub calls-length : (js : Calls) → length (calls_in js) ≡ js.count
-unfolding calls_in
-calls-length js = seen-length call_of blank_call js.count js.list
+calls-length js = seen-length call_of blank_call js
 
 pub call-is : (js : Calls) (j : ℕ) → j < js.count → get_or (calls_in js) j no_call ≡ call_of (get_or js.list j blank_call)
-unfolding calls_in
-call-is js j h = seen_at call_of blank_call js.count js.list j no_call h
+call-is js j h = seen_at call_of blank_call js j no_call h
 
 pub calls-added : (js : Calls) (c : Call) → js.count < length js.list → calls_in (call_added js c) ≡ calls_in js ++ (call_of c ∷ [])
-unfolding calls_in
-calls-added js c h = seen-added call_of blank_call js.count js.list c h
+calls-added js c h = seen-added call_of blank_call js c h
 
 pub calls-answered : (js : Calls) (j : ℕ) → j < js.count → js.count ≤ length js.list → calls_in (call_answered js j) ≡ set (calls_in js) j (flagged (get_or (calls_in js) j no_call) true)
-unfolding calls_in
-calls-answered js j h r = seen-set call_of blank_call js.count js.list j (answered_as (get_or js.list j blank_call)) h r
+calls-answered js j h r = seen-set call_of blank_call js j (answered_as (get_or js.list j blank_call)) h r
     ∙ ap (λ (x : Callᵐ). set (calls_in js) j (flagged x true)) (sym (call-is js j h))
 
 -- What a state means, by its parts.
 pub system-is : (s : State) → system_in s ≡ record { table = table_in s.types s.links s.counts; cells = cells_in s.cells; places = places_in s.places; calls = calls_in s.calls }
-unfolding system_in system_of table_in cells_in places_in calls_in
+unfolding system_in system_of table_in seen
 system-is s =
     rw (
       from-same (λ k. get_or (map cell_of s.cells.list) k no_cell) (λ k. cell_of (get_or s.cells.list k blank_cell)) s.cells.count 0

@@ -11,9 +11,10 @@ use Rattle.state_record.specs.declared.Place.{Place}
 use Rattle.state_record.specs.declared.Place.TheVariants.{Object, Adapter}
 use Rattle.state_record.specs.declared.PlaceRec.{PlaceRec}
 use Rattle.state_record.specs.declared.Call.{Call}
-use Rattle.state_record.specs.declared.Cells.{Cells}
-use Rattle.state_record.specs.declared.Places.{Places}
-use Rattle.state_record.specs.declared.Calls.{Calls}
+use Rattle.state_record.specs.Counted.{Cells}
+use Rattle.state_record.specs.Counted.{Places}
+use Rattle.state_record.specs.Counted.{Calls}
+use Rattle.state_record.specs.declared.Records.{Records}
 use Rattle.state_record.specs.declared.State.{State as Rest}
 use Rattle.state_record.specs.Whole.{Whole as State}
 
@@ -54,14 +55,17 @@ unfolding system_of
 system_in s = system_of (raw_state s)
 
 -- nothing held, made or called yet (Q10)
+abbrev pub none_of : {A : Type 0} → A → (n : ℕ) → Records A n
+none_of d n = record { list = replicate n d; count = 0 }
+
 abbrev pub no_cells : Cells
-no_cells = record { list = replicate max_cells blank_cell; count = 0 }
+no_cells = none_of blank_cell max_cells
 
 abbrev pub no_places : Places
-no_places = record { list = replicate max_places blank_place; count = 0 }
+no_places = none_of blank_place max_places
 
 abbrev pub no_calls : Calls
-no_calls = record { list = replicate max_calls blank_call; count = 0 }
+no_calls = none_of blank_call max_calls
 
 abbrev pub state_loaded : List ℕ → Counts → Rest
 state_loaded links counts = record { links = links; counts = counts; cells = no_cells; places = no_places; calls = no_calls }

@@ -6,7 +6,7 @@ use Rattle.spec_model.specs.Requests.{Cell as Cellᵐ, Call as Callᵐ, no_cell,
 use Rattle.table_record.specs.declared.Counts.{Counts}
 use Rattle.table_record.specs.Limits.{Checked}
 use Rattle.table_record.specs.Layout.{types_size}
-use Rattle.state_record.specs.declared.Places.{Places}
+use Rattle.state_record.specs.Counted.{Places}
 use Rattle.state_record.specs.Whole.{Whole as State}
 use Rattle.state_record.specs.View.{cells_in, places_in, calls_in, is_object, behind_of}
 

@@ -6,23 +6,27 @@ use Rattle.spec_model.specs.Requests.{Cell as Cellᵐ, Call as Callᵐ}
 use Rattle.state_record.specs.declared.Cell.{Cell}
 use Rattle.state_record.specs.declared.PlaceRec.{PlaceRec}
 use Rattle.state_record.specs.declared.Call.{Call}
-use Rattle.state_record.specs.declared.Cells.{Cells}
-use Rattle.state_record.specs.declared.Places.{Places}
-use Rattle.state_record.specs.declared.Calls.{Calls}
+use Rattle.state_record.specs.Counted.{Cells}
+use Rattle.state_record.specs.Counted.{Places}
+use Rattle.state_record.specs.Counted.{Calls}
+use Rattle.state_record.specs.declared.Records.{Records}
 use Rattle.state_record.specs.declared.State.{State as Rest}
 use Rattle.state_record.specs.Whole.{Whole as State}
-pub use Rattle.state_record.specs.Meaning.{cell_of, place_of, call_of, blank_cell, blank_place, blank_call, raw_state, no_cells, no_places, no_calls, state_loaded}
+pub use Rattle.state_record.specs.Meaning.{cell_of, place_of, call_of, blank_cell, blank_place, blank_call, raw_state, none_of, no_cells, no_places, no_calls, state_loaded}
 unfoldable pub use Rattle.state_record.specs.Meaning.{system_in}
 
--- the counted records as the model's
-unfoldable pub cells_in : Cells → List Cellᵐ
-cells_in cs = from cs.count 0 (λ k. cell_of (get_or cs.list k blank_cell))
+-- the counted records as the model's, each seen through f
+unfoldable pub seen : {A B : Type 0} {n : ℕ} → (A → B) → A → Records A n → List B
+seen f d r = from r.count 0 (λ k. f (get_or r.list k d))
 
-unfoldable pub places_in : Places → List Placeᵐ
-places_in ps = from ps.count 0 (λ k. place_of (get_or ps.list k blank_place).place)
+abbrev pub cells_in : Cells → List Cellᵐ
+cells_in cs = seen cell_of blank_cell cs
 
-unfoldable pub calls_in : Calls → List Callᵐ
-calls_in js = from js.count 0 (λ k. call_of (get_or js.list k blank_call))
+abbrev pub places_in : Places → List Placeᵐ
+places_in ps = seen (λ p. place_of p.place) blank_place ps
+
+abbrev pub calls_in : Calls → List Callᵐ
+calls_in js = seen call_of blank_call js
 
 -- an object or an adapter; what is behind an adapter
 abbrev pub is_object : Placeᵐ → Bool
@@ -34,14 +38,17 @@ behind_of (object class owner) = 0
 behind_of (adapter behind closed) = behind
 
 -- One record more (Q6), and a call with its flag (A11): every other stored record as it was.
+abbrev pub added : {A : Type 0} {n : ℕ} → Records A n → A → Records A n
+added r x = record { list = set r.list r.count x; count = r.count + 1 }
+
 abbrev pub cell_added : Cells → Cell → Cells
-cell_added cs c = record { list = set cs.list cs.count c; count = cs.count + 1 }
+cell_added = added
 
 abbrev pub place_added : Places → PlaceRec → Places
-place_added ps p = record { list = set ps.list ps.count p; count = ps.count + 1 }
+place_added = added
 
 abbrev pub call_added : Calls → Call → Calls
-call_added js c = record { list = set js.list js.count c; count = js.count + 1 }
+call_added = added
 
 abbrev pub answered_as : Call → Call
 answered_as c = record { caller = c.caller; cell = c.cell; method = c.method; answered = true }

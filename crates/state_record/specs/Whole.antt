@@ -1,9 +1,9 @@
 -- A whole state: the bytes of its types, which are lent, and the rest, which goes by value. Contracts and laws speak of whole states.
 use Rattle.std.specs.Prelude.{List, ℕ}
 use Rattle.table_record.specs.declared.Counts.{Counts}
-use Rattle.state_record.specs.declared.Cells.{Cells}
-use Rattle.state_record.specs.declared.Places.{Places}
-use Rattle.state_record.specs.declared.Calls.{Calls}
+use Rattle.state_record.specs.Counted.{Cells}
+use Rattle.state_record.specs.Counted.{Places}
+use Rattle.state_record.specs.Counted.{Calls}
 use Rattle.state_record.specs.declared.State.{State}
 
 pub record Whole : Type 0 where

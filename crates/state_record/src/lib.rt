@@ -4,12 +4,24 @@
 #![tactic(auto)]
 
 ghost use Rattle.std.specs.Prelude.{◌≡◌, true, [], ◌∷◌, ◌++◌, ◌≤◌, ◌<◌, length, get_or, set};
-ghost use Rattle.spec_model.specs.Crossing.{place_at, max_places};
-ghost use Rattle.spec_model.specs.Requests.{no_cell, no_call, flagged, max_cells, max_calls};
-ghost use Rattle.state_record.specs.View.{cell_of, place_of, call_of, cells_in, places_in, calls_in, blank_cell, blank_place, blank_call};
-ghost use Rattle.state_record.specs.View.{no_cells, no_places, no_calls, state_loaded, state_calls, cell_added, place_added, call_added, call_answered};
+ghost use Rattle.spec_model.specs.Crossing.{Place as Placeᵐ};
+ghost use Rattle.spec_model.specs.Requests.{Cell as Cellᵐ, Call as Callᵐ, no_call, flagged, max_calls};
+ghost use Rattle.state_record.specs.View.{cell_of, place_of, call_of, seen, calls_in, blank_cell, blank_place, blank_call};
+ghost use Rattle.state_record.specs.View.{none_of, added, state_loaded, state_calls, call_answered};
 
 use table_record::{Counts, LINK_BYTES};
+
+// What a list may hold: a record, what it means in the model, and the record that fills a list past its count.
+pub trait Record: Copy {
+    ghost Meaning: { Type 0 };
+
+    ghost meaning: { Self → Meaning };
+
+    ghost blank: { Self };
+
+    fn blank() -> Self
+        ensures { result ≡ blank };
+}
 
 // A cell: a reference as a subject holds it. Its holder, the sheet type by which it is held, and the place it leads to.
 #[derive(Clone, Copy)]
@@ -17,6 +29,22 @@ pub struct Cell {
     pub holder: u8,
     pub ty: u8,
     pub place: u8,
+}
+
+impl Record for Cell {
+    ghost Meaning = { Cellᵐ };
+
+    ghost meaning = { cell_of };
+
+    ghost blank = { blank_cell };
+
+    fn blank() -> Self {
+        Self {
+            holder: 0,
+            ty: 0,
+            place: 0,
+        }
+    }
 }
 
 // A place: an object, of a class and with an owner; or an adapter of a closed type in front of another place.
@@ -31,6 +59,20 @@ pub struct PlaceRec {
     pub place: Place,
 }
 
+impl Record for PlaceRec {
+    ghost Meaning = { Placeᵐ };
+
+    ghost meaning = { λ p. place_of p.place };
+
+    ghost blank = { blank_place };
+
+    fn blank() -> Self {
+        Self {
+            place: Place::Object { class: 0, owner: 0 },
+        }
+    }
+}
+
 // A call (Q5): by whom, through which cell, of which method; and its answered flag.
 #[derive(Clone, Copy)]
 pub struct Call {
@@ -40,23 +82,36 @@ pub struct Call {
     pub answered: bool,
 }
 
+impl Record for Call {
+    ghost Meaning = { Callᵐ };
+
+    ghost meaning = { call_of };
+
+    ghost blank = { blank_call };
+
+    fn blank() -> Self {
+        Self {
+            caller: 0,
+            cell: 0,
+            method: 0,
+            answered: false,
+        }
+    }
+}
+
+// Records in fixed memory, and how many of them count.
+// Kept: an array with its count, by a rule (Q7 to Q9: fixed memory) and by the C interface, which hands in and gives back whole arrays.
 #[derive(Clone, Copy)]
-pub struct Cells {
-    pub list: [Cell; State::CELLS],
+pub struct Records<T: Record, const N: usize> {
+    pub list: [T; N],
     pub count: usize,
 }
 
-#[derive(Clone, Copy)]
-pub struct Places {
-    pub list: [PlaceRec; State::PLACES],
-    pub count: usize,
-}
+pub type Cells = Records<Cell, { State::CELLS }>;
 
-#[derive(Clone, Copy)]
-pub struct Calls {
-    pub list: [Call; State::CALLS],
-    pub count: usize,
-}
+pub type Places = Records<PlaceRec, { State::PLACES }>;
+
+pub type Calls = Records<Call, { State::CALLS }>;
 
 #[derive(Clone, Copy)]
 pub struct State {
@@ -67,137 +122,62 @@ pub struct State {
     pub calls: Calls,
 }
 
-// F6, the cells lent as a slice: lookup reads a record, append stores one. They decide nothing: whether a number is in use, who holds the cell and whether
+// F6, the records lent as a slice: lookup reads a record, append stores one. They decide nothing: whether a number is in use, who holds the cell and whether
 // there is room is asked above them.
-fn lookup(cells: &[Cell], k: usize) -> Cell
-    requires { k < length cells.now }
-    ensures { result ≡ get_or cells.now k blank_cell }
+fn lookup<T: Record>(records: &[T], k: usize) -> T
+    requires { k < length records.now }
+    ensures { result ≡ get_or records.now k T.blank }
 {
-    cells[k]
+    records[k]
 }
 
-fn append(cells: &mut [Cell], count: usize, c: Cell)
-    requires { count < length cells.old }
-    ensures { cells.new ≡ set cells.old count c }
+fn append<T: Record>(records: &mut [T], count: usize, x: T)
+    requires { count < length records.old }
+    ensures { records.new ≡ set records.old count x }
 {
-    cells[count] = c;
+    records[count] = x;
 }
 
-// The same for an array by value, which is lent here, so that no caller has a reference to a record.
-fn looked_up(cells: [Cell; State::CELLS], k: usize) -> Cell
-    requires { k < max_cells }
-    ensures { result ≡ get_or cells k blank_cell }
-{
-    lookup(&cells, k)
-}
-
-fn appended(cells: [Cell; State::CELLS], count: usize, c: Cell) -> [Cell; State::CELLS]
-    requires { count < max_cells }
-    ensures { result ≡ set cells count c }
-{
-    let mut a = cells;
-    append(&mut a, count, c);
-    a
-}
-
-impl Cells {
+impl<T: Record, const N: usize> Records<T, N> {
     pub fn none() -> Self
-        ensures { result ≡ no_cells }
+        ensures { result ≡ none_of T.blank N }
     {
-        let c = Cell {
-            holder: 0,
-            ty: 0,
-            place: 0,
-        };
         Self {
-            list: [c; State::CELLS],
+            list: [T::blank(); N],
             count: 0,
         }
     }
 
-    // one more cell (Q6)
-    pub fn add(self, c: Cell) -> Self
-        requires { self.count < max_cells }
-        ensures { (result ≡ cell_added self c) × (cells_in result ≡ cells_in self ++ (cell_of c ∷ [])) }
+    // one record more (Q6)
+    pub fn add(self, x: T) -> Self
+        requires { self.count < N }
+        ensures { (result ≡ added self x) × (seen T.meaning T.blank result ≡ seen T.meaning T.blank self ++ (T.meaning x ∷ [])) }
     {
-        let list = self.list;
-        let count = self.count;
-        let list = appended(list, count, c);
+        let mut list = self.list;
+        append(&mut list, self.count, x);
         Self {
             list,
-            count: count + 1,
-        }
-    }
-}
-
-impl Places {
-    pub fn none() -> Self
-        ensures { result ≡ no_places }
-    {
-        let p = PlaceRec {
-            place: Place::Object { class: 0, owner: 0 },
-        };
-        Self {
-            list: [p; State::PLACES],
-            count: 0,
+            count: self.count + 1,
         }
     }
 
-    // one more place (Q6)
-    pub fn add(self, p: PlaceRec) -> Self
-        requires { self.count < max_places }
-        ensures { (result ≡ place_added self p) × (places_in result ≡ places_in self ++ (place_of p.place ∷ [])) }
+    // the record of number k
+    pub fn at(&self, k: usize) -> T
+        requires { k < N }
+        ensures { (result ≡ get_or self.now.list k T.blank) × (k < self.now.count → T.meaning result ≡ get_or (seen T.meaning T.blank self.now) k (T.meaning T.blank)) }
     {
-        let mut ps = self;
-        let at = ps.count;
-        ps.list[at] = p;
-        ps.count = at + 1;
-        ps
+        lookup(&self.list, k)
     }
 }
 
 impl Calls {
-    pub fn none() -> Self
-        ensures { result ≡ no_calls }
-    {
-        let c = Call {
-            caller: 0,
-            cell: 0,
-            method: 0,
-            answered: false,
-        };
-        Self {
-            list: [c; State::CALLS],
-            count: 0,
-        }
-    }
-
-    // one more call (Q6)
-    pub fn add(self, c: Call) -> Self
-        requires { self.count < max_calls }
-        ensures { (result ≡ call_added self c) × (calls_in result ≡ calls_in self ++ (call_of c ∷ [])) }
-    {
-        let mut js = self;
-        let at = js.count;
-        js.list[at] = c;
-        js.count = at + 1;
-        js
-    }
-
     // call j is answered: the flag of its record, and nothing else (Q15)
     pub fn answered(self, j: usize) -> Self
         requires { (j < self.count) × (self.count ≤ max_calls) }
         ensures { (result ≡ call_answered self j) × (calls_in result ≡ set (calls_in self) j (flagged (get_or (calls_in self) j no_call) true)) }
     {
         let mut js = self;
-        let old = js.list[j];
-        let c = Call {
-            caller: old.caller,
-            cell: old.cell,
-            method: old.method,
-            answered: true,
-        };
-        js.list[j] = c;
+        js.list[j].answered = true;
         js
     }
 }
@@ -216,15 +196,12 @@ impl State {
     pub fn loaded(links: [u8; LINK_BYTES], counts: Counts) -> Self
         ensures { result ≡ state_loaded links counts }
     {
-        let cells = Cells::none();
-        let places = Places::none();
-        let calls = Calls::none();
         Self {
             links,
             counts,
-            cells,
-            places,
-            calls,
+            cells: Records::none(),
+            places: Records::none(),
+            calls: Records::none(),
         }
     }
 
@@ -232,39 +209,6 @@ impl State {
     pub fn with_calls(self, calls: Calls) -> Self
         ensures { result ≡ state_calls self calls }
     {
-        let links = self.links;
-        let counts = self.counts;
-        let cells = self.cells;
-        let places = self.places;
-        Self {
-            links,
-            counts,
-            cells,
-            places,
-            calls,
-        }
+        Self { calls, ..self }
     }
-}
-
-// The record of a cell, of a place and of a call, by its number.
-pub fn cell_at(cs: Cells, k: usize) -> Cell
-    requires { k < max_cells }
-    ensures { (result ≡ get_or cs.list k blank_cell) × (k < cs.count → cell_of result ≡ get_or (cells_in cs) k no_cell) }
-{
-    let list = cs.list;
-    looked_up(list, k)
-}
-
-pub fn place_at(ps: Places, p: usize) -> PlaceRec
-    requires { p < max_places }
-    ensures { (result ≡ get_or ps.list p blank_place) × (p < ps.count → place_of result.place ≡ place_at (places_in ps) p) }
-{
-    ps.list[p]
-}
-
-pub fn call_at(js: Calls, j: usize) -> Call
-    requires { j < max_calls }
-    ensures { (result ≡ get_or js.list j blank_call) × (j < js.count → call_of result ≡ get_or (calls_in js) j no_call) }
-{
-    js.list[j]
 }
