@@ -1,13 +1,15 @@
 -- The passes, by what is left of the lists, and the tests of a whole call. The proofs of the functions cite them.
-use mathlib.Core.Path.{◌≡◌, sym, ap, ◌∙◌}
-use mathlib.Core.Bool.{Bool, true, false, not}
+use mathlib.Core.Path.{◌≡◌, ap, ◌∙◌}
+use mathlib.Core.Bool.{Bool, true, false}
 use mathlib.Core.List.{List}
 use Prim.Native.Nat.{ℕ, ◌+◌, ◌≤◌, ◌<◌}
 use native.Mathlib.Omega.{arith}
 use native.Mathlib.Numerals.{add-one}
 use lib.ListN.{length, get_or, drop, drop_of_length-le}
 use lib.Seq.{drop-cons}
-use borrow.Author.Tests.{le-leb, lt-leb, not-true, not-false}
+use borrow.Author.Tests.{le-leb, lt-leb, leb-true}
+use lib.Dec.{leb}
+use Rattle.spec_model.proofs.Rules.{first}
 use Rattle.spec_model.specs.Basics.{refuse, ok}
 use Rattle.spec_model.specs.Refusals.{unfit_times}
 use Rattle.spec_doors.specs.Times.{max_times, last_time, max_tolerance, rising, times_fit, all_fit}
@@ -63,30 +65,16 @@ module _ (within : ℕ) (marks arrivals : List ℕ) (i j n : ℕ) (inv : pairs_o
       pub next-pair : get_or marks i 0 ≤ get_or arrivals j 0 + within → pairs_of within marks arrivals ≡ (n + 1) + left within marks arrivals (i + 1) (j + 1)
       next-pair h = omega (arith, inv, paired within marks arrivals i j hi hj late h)
 
--- ---- The tests of a whole call
--- what `!` says of a test that was answered by r
-pub refuses : (r t : Bool) → r ≡ t → not r ≡ true → false ≡ t
-refuses r t e n = sym (not-true r n) ∙ e
-
-pub accepts : (r t : Bool) → r ≡ t → not r ≡ false → true ≡ t
-accepts r t e n = sym (not-false r n) ∙ e
-
+-- ---- A whole call
 module _ (marks arrivals : List ℕ) (within : ℕ) where
-  unfits : all_fit marks arrivals within ≡ false → refuse unfit_times ≡ held marks arrivals within
+  pub unfits : all_fit marks arrivals within ≡ false → refuse unfit_times ≡ held marks arrivals within
   unfolding held
   unfits e = rw e
 
-  pub too-wide : max_tolerance < within → refuse unfit_times ≡ held marks arrivals within
-  too-wide h = unfits (rw (lt-leb within max_tolerance h))
+  module _ (e : all_fit marks arrivals within ≡ true) where
+    pub fit-tolerance : within ≤ max_tolerance
+    fit-tolerance = leb-true within max_tolerance (first (leb within max_tolerance) _ e)
 
-  module _ (h : within ≤ max_tolerance) where
-    pub marks-unfit : false ≡ times_fit marks → refuse unfit_times ≡ held marks arrivals within
-    marks-unfit e = unfits (rw (le-leb within max_tolerance h, ← e))
-
-    module _ (a : true ≡ times_fit marks) where
-      pub arrivals-unfit : false ≡ times_fit arrivals → refuse unfit_times ≡ held marks arrivals within
-      arrivals-unfit e = unfits (rw (le-leb within max_tolerance h, ← a, ← e))
-
-      pub all-counted : true ≡ times_fit arrivals → (n : ℕ) → n ≡ pairs_of within marks arrivals → ok (counts marks arrivals n) ≡ held marks arrivals within
-      unfolding held
-      all-counted e n q = rw (le-leb within max_tolerance h, ← a, ← e, q)
+    pub all-counted : (n : ℕ) → n ≡ pairs_of within marks arrivals → ok (counts marks arrivals n) ≡ held marks arrivals within
+    unfolding held
+    all-counted n q = rw (e, q)

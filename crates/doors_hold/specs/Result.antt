@@ -1,9 +1,13 @@
--- The number and values of each case that marks held against arrivals come to (E4).
-use Rattle.spec_model.specs.Basics.{Res, refuse, ok}
+-- What marks held against arrivals come to (E4), in the words of crate `spec_doors`.
+use Rattle.std.specs.Prelude.{Result}
+use Rattle.spec_model.specs.Basics.{Res}
 use Rattle.spec_doors.specs.Held.{Counts}
-use Rattle.doors_hold.specs.declared.Held.{Held}
-use Rattle.doors_hold.specs.declared.Held.TheVariants.{Refused, Counted}
+use Rattle.base_numbers.specs.Refusal.{res_by}
+use Rattle.base_numbers.specs.declared.refusal.Refusal.{Refusal}
+use Rattle.doors_hold.specs.declared.Counts.{Counts as Countsʰ}
+
+abbrev pub Held : Type 0
+Held = Result Countsʰ Refusal
 
 abbrev pub held_of : Held → Res Counts
-held_of (Refused e) = refuse e
-held_of (Counted n m a) = ok (record { pairs = n; marks = m; arrivals = a })
+held_of = res_by λ c. record { pairs = c.pairs; marks = c.marks; arrivals = c.arrivals }

@@ -2,11 +2,11 @@
 #![tactic(auto)]
 
 ghost use Rattle.std.specs.Prelude.{◌≡◌, true, ◌≤◌};
-ghost use Rattle.spec_doors.specs.Times.{max_tolerance, rising, times_fit};
+ghost use Rattle.spec_doors.specs.Times.{max_tolerance, rising, times_fit, all_fit};
 ghost use Rattle.spec_doors.specs.Held.{pairs_of, held};
 ghost use Rattle.doors_hold.specs.Result.{held_of};
 
-use base_numbers::refusal;
+use base_numbers::refusal::Refusal;
 
 // How many times a list may have (V1).
 pub const TIMES: usize = 1024;
@@ -17,15 +17,12 @@ const LAST_TIME: u64 = 4294967295;
 // The largest tolerance, in milliseconds.
 const TOLERANCE: u64 = 60000;
 
-// What comes of it: the number of a refusal, or the counts of V6. specs/Result.antt says what it stands for.
+// The counts of V6: pairs, unpaired marks and unpaired arrivals.
 #[derive(Clone, Copy)]
-pub enum Held {
-    Refused(usize),
-    Counted {
-        pairs: usize,
-        marks: usize,
-        arrivals: usize,
-    },
+pub struct Counts {
+    pub pairs: usize,
+    pub marks: usize,
+    pub arrivals: usize,
 }
 
 // Whether a list of times may be handed in (V1, V2).
@@ -35,20 +32,21 @@ fn times_fit(xs: &[u64]) -> bool
     if TIMES < xs.len() {
         return false;
     }
-    let mut low: u64 = 0;
-    let mut k: usize = 0;
-    while k < xs.len() {
-        let x = xs[k];
-        if x < low {
-            return false;
-        }
-        if LAST_TIME < x {
+    let mut low = 0;
+    for &x in xs {
+        if x < low || LAST_TIME < x {
             return false;
         }
         low = x;
-        k += 1;
     }
     true
+}
+
+// Whether both lists and the tolerance may be (V1, V2).
+fn all_fit(marks: &[u64], arrivals: &[u64], within: u64) -> bool
+    ensures { result ≡ all_fit marks.now arrivals.now within }
+{
+    within <= TOLERANCE && times_fit(marks) && times_fit(arrivals)
 }
 
 // The pass (V8). Times and tolerance are small enough to be added.
@@ -56,47 +54,37 @@ fn count_pairs(marks: &[u64], arrivals: &[u64], within: u64) -> usize
     requires { (rising 0 marks.now ≡ true) × (rising 0 arrivals.now ≡ true) × (within ≤ max_tolerance) }
     ensures { result ≡ pairs_of within marks.now arrivals.now }
 {
-    let mut i: usize = 0;
-    let mut j: usize = 0;
-    let mut n: usize = 0;
-    while i < marks.len() {
-        if arrivals.len() <= j {
-            return n;
-        }
+    let mut i = 0;
+    let mut j = 0;
+    let mut n = 0;
+    // Kept: no count; each turn takes a step in one list, in the other or in both.
+    while i < marks.len() && j < arrivals.len() {
         let m = marks[i];
         let a = arrivals[j];
         if m + within < a {
             i += 1;
-            continue;
-        }
-        if a + within < m {
+        } else if a + within < m {
             j += 1;
-            continue;
+        } else {
+            n += 1;
+            i += 1;
+            j += 1;
         }
-        i = i + 1;
-        j = j + 1;
-        n += 1;
     }
     n
 }
 
 // Pairs, unpaired marks and unpaired arrivals; 22 for what may not be handed in (V3).
-pub fn hold(marks: &[u64], arrivals: &[u64], within: u64) -> Held
+pub fn hold(marks: &[u64], arrivals: &[u64], within: u64) -> Result<Counts, Refusal>
     ensures { held_of result ≡ held marks.now arrivals.now within }
 {
-    if TOLERANCE < within {
-        return Held::Refused(refusal::UNFIT_TIMES);
+    if !all_fit(marks, arrivals, within) {
+        return Err(Refusal::UnfitTimes);
     }
-    if !times_fit(marks) {
-        return Held::Refused(refusal::UNFIT_TIMES);
-    }
-    if !times_fit(arrivals) {
-        return Held::Refused(refusal::UNFIT_TIMES);
-    }
-    let n = count_pairs(marks, arrivals, within);
-    Held::Counted {
-        pairs: n,
-        marks: marks.len() - n,
-        arrivals: arrivals.len() - n,
-    }
+    let pairs = count_pairs(marks, arrivals, within);
+    Ok(Counts {
+        pairs,
+        marks: marks.len() - pairs,
+        arrivals: arrivals.len() - pairs,
+    })
 }

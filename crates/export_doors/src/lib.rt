@@ -4,8 +4,6 @@
 ghost use Rattle.spec_doors.specs.Held.{held};
 ghost use Rattle.export_doors.specs.Result.{HeldIs};
 
-use doors_hold::Held;
-
 // Pairs, unpaired marks and unpaired arrivals into `counts`, and 0; or 22, and `counts` stays as it was.
 pub fn pilgonca_doors(
     marks: &[u64],
@@ -15,16 +13,12 @@ pub fn pilgonca_doors(
 ) -> usize
     ensures { HeldIs (held marks.now arrivals.now within) result counts.old counts.new }
 {
-    let h = doors_hold::hold(marks, arrivals, within);
-    match h {
-        Held::Refused(n) => n,
-        Held::Counted {
-            pairs,
-            marks,
-            arrivals,
-        } => {
-            *counts = [pairs, marks, arrivals];
+    // Kept: the C interface, which tells a refusal by its number.
+    match doors_hold::hold(marks, arrivals, within) {
+        Ok(c) => {
+            *counts = [c.pairs, c.marks, c.arrivals];
             0
         }
+        Err(e) => e.number(),
     }
 }

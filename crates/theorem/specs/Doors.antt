@@ -10,8 +10,7 @@ use Rattle.spec_doors.specs.Held.{Counts, held}
 use Rattle.spec_doors.specs.Paired.{Fit, Counted, Paired}
 use Rattle.spec_doors.specs.Input.{Input, input_lines, input_text}
 use Rattle.spec_doors.specs.Output.{doors_output}
-use Rattle.doors_hold.specs.declared.Held.{Held}
-use Rattle.doors_hold.specs.Result.{held_of}
+use Rattle.doors_hold.specs.Result.{Held, held_of}
 use Rattle.export_doors.specs.Result.{words_of, HeldIs}
 
 abbrev pub ShownOfHolding : Type 0
