@@ -1,5 +1,6 @@
 -- Layers and targets as they are stored, in the words of the model, and what comes of a number that passes one.
-use Rattle.std.specs.Prelude.{Bool, true, false, List, map, suc, ℕ, eqb, ℤ, take}
+use Rattle.std.specs.Prelude.{Bool, List, map, suc, ℕ, ℤ, take, Some, None, Result}
+use Rattle.std.specs.Prelude.{Option as Maybe}
 use Rattle.std.proofs.Math.Option.{Option, none, some}
 use Rattle.std.proofs.Math.ListN.{get_elem?}
 use Rattle.spec_model.specs.Basics.{Res, refuse, ok, need}
@@ -7,7 +8,8 @@ use Rattle.spec_model.specs.Table.{Table, Rep, ref, w32, w64, type_at, argument_
 use Rattle.spec_model.specs.Table.{Method as Methodᵐ}
 use Rattle.spec_model.specs.Crossing.{max_places}
 use Rattle.spec_model.specs.Requests.{at_layer, within}
-use Rattle.spec_model.specs.Check.{answer_of}
+use Rattle.base_numbers.specs.declared.refusal.Refusal.{Refusal}
+use Rattle.base_numbers.specs.Refusal.{res_by}
 use Rattle.spec_model.specs.Refusals.{unrelated, too_wide}
 use Rattle.table_record.specs.declared.Method.{Method}
 use Rattle.crossing_targets.specs.declared.CallLayers.{CallLayers}
@@ -22,9 +24,14 @@ call_layers_in w = take w.count w.list
 abbrev pub max_layers : ℕ
 max_layers = suc max_places
 
+-- an option as the model has it
+abbrev pub option_of : {A : Type 0} → Maybe A → Option A
+option_of (Some x) = some x
+option_of None = none
+
 -- the targets, as the model has them
 abbrev pub targets_in : Targets → List (Option ℕ)
-targets_in x = map answer_of (take x.count x.list)
+targets_in x = map option_of (take x.count x.list)
 
 -- argument i of a signature as it is stored
 abbrev pub argument_of : Method → ℕ → Option ℕ
@@ -52,5 +59,5 @@ abbrev pub pass_to : Bool → Table → ℤ → Option ℕ → Res (Unit {0})
 pass_to first t v none = refuse (at_layer first unrelated)
 pass_to first t v (some a) = pass_as first v (type_at t a).rep
 
-abbrev pub passed_of : ℕ → Res (Unit {0})
-passed_of e = elim (eqb e 0) [ false ↦ refuse e | true ↦ ok tt ]
+abbrev pub passed_of : Result (Unit {0}) Refusal → Res (Unit {0})
+passed_of = res_by (λ (x : Unit {0}). x)

@@ -4,15 +4,15 @@
 
 ghost use Rattle.std.specs.Prelude.{◌≡◌, List, ◌∷◌, map, reverse, true, ℕ, suc, ◌≤◌, eqb, pos, negsuc};
 ghost use Rattle.spec_model.specs.Requests.{at_layer, within, pass_layers};
-ghost use Rattle.spec_model.specs.Check.{method_of, answer_of};
-ghost use Rattle.spec_model.specs.Records.{answer_code};
+ghost use Rattle.spec_model.specs.Check.{method_of};
+ghost use Rattle.base_numbers.specs.Refusal.{number_of};
 ghost use Rattle.spec_model.specs.Crossing.{max_places};
 ghost use Rattle.table_record.specs.Store.{raw_method, table_in};
 ghost use Rattle.table_record.specs.Limits.{Limits};
 ghost use Rattle.state_places.specs.Behind.{layers_in};
-ghost use Rattle.crossing_targets.specs.Targets.{call_layers_in, targets_in, argument_of, slot_in, slot_at, width_at, pass_to, passed_of, max_layers};
+ghost use Rattle.crossing_targets.specs.Targets.{call_layers_in, targets_in, option_of, argument_of, slot_in, slot_at, width_at, pass_to, passed_of, max_layers};
 
-use base_numbers::{least, refusal, wide};
+use base_numbers::refusal::Refusal;
 use state_places::Layers;
 use state_record::State;
 use table_record::{Counts, Head, Method, TYPE_BYTES};
@@ -36,11 +36,10 @@ pub enum Slot {
     Answer,
 }
 
-// The type that each layer has for the value: 0 for none, else its number and 1. Types are taken at their word (H14), and a byte can be 255: so a code is no
-// byte.
+// The type that each layer has for the value, where it has one.
 #[derive(Clone, Copy)]
 pub struct Targets {
-    pub list: [usize; CallLayers::MAX],
+    pub list: [Option<u8>; CallLayers::MAX],
     pub count: usize,
 }
 
@@ -48,62 +47,44 @@ pub fn call_layers(ty: u8, l: Layers) -> CallLayers
     requires { l.count ≤ max_places }
     ensures { (call_layers_in result ≡ ty ∷ layers_in l) × (result.count ≡ suc l.count) }
 {
-    let n = l.count;
+    let count = l.count + 1;
     let mut list = [ty; CallLayers::MAX];
-    let mut i: usize = 0;
-    while i < n {
-        list[i + 1] = l.list[i];
-        i += 1;
-    }
-    CallLayers { list, count: n + 1 }
+    list[1..count].copy_from_slice(&l.list[..l.count]);
+    CallLayers { list, count }
 }
 
-// The last argument slot of a record.
-const LAST_SLOT: usize = Method::SLOTS - 1;
-
 // Argument i of a signature. A count above the four that a record has room for uses all of them.
-pub fn argument_in(x: Method, i: usize) -> usize
-    ensures { result ≡ answer_code (argument_of x i) }
+pub fn argument_in(x: Method, i: usize) -> Option<u8>
+    ensures { option_of result ≡ argument_of x i }
 {
-    let n = wide(x.count);
-    let a = x.argument(least(i, LAST_SLOT));
-    if n <= i {
-        return 0;
-    }
-    if Method::SLOTS <= i {
-        return 0;
-    }
-    a + 1
+    let n = usize::from(x.count).min(Method::SLOTS);
+    if i < n { Some(x.args[i]) } else { None }
 }
 
 // What a method has in a slot: nothing where it does not permit (C15, A4).
-fn slot_in(x: Method, s: Slot) -> usize
-    ensures { result ≡ answer_code (slot_in (method_of (raw_method x)) s) }
+fn slot_in(x: Method, s: Slot) -> Option<u8>
+    ensures { option_of result ≡ slot_in (method_of (raw_method x)) s }
 {
-    let p = table_record::permits(x.state);
-    if !p {
-        return 0;
+    if !table_record::permits(x.state) {
+        return None;
     }
     match s {
         Slot::Argument(i) => argument_in(x, i),
-        Slot::Answer => wide(x.answer),
+        Slot::Answer => x.answer.checked_sub(1),
     }
 }
 
 // What method m of type t has in a slot. A number type has no methods.
-pub fn target_at(types: &[u8; TYPE_BYTES], c: Counts, m: usize, s: Slot, t: usize) -> usize
+pub fn target_at(types: &[u8; TYPE_BYTES], c: Counts, m: usize, s: Slot, t: usize) -> Option<u8>
     requires { Limits c }
-    ensures { (l : List ℕ) → result ≡ answer_code (slot_at (table_in types.now l c) m s t) }
+    ensures { (l : List ℕ) → option_of result ≡ slot_at (table_in types.now l c) m s t }
 {
-    if c.types <= t {
-        return 0;
-    }
-    if c.methods <= m {
-        return 0;
+    if c.types <= t || c.methods <= m {
+        return None;
     }
     let h = table_record::get_head(types, t);
     if h.rep != Head::REF {
-        return 0;
+        return None;
     }
     slot_in(table_record::get_method(types, t, m), s)
 }
@@ -113,14 +94,14 @@ pub fn targets_of(types: &[u8; TYPE_BYTES], c: Counts, m: usize, s: Slot, w: Cal
     requires { Limits c × (w.count ≤ max_layers) }
     ensures { ((l : List ℕ) → targets_in result ≡ map (slot_at (table_in types.now l c) m s) (call_layers_in w)) × (result.count ≡ w.count) }
 {
-    let n = w.count;
-    let mut list = [0usize; CallLayers::MAX];
-    let mut i: usize = 0;
-    while i < n {
-        list[i] = target_at(types, c, m, s, wide(w.list[i]));
-        i += 1;
+    let mut list = [None; CallLayers::MAX];
+    for i in 0..w.count {
+        list[i] = target_at(types, c, m, s, usize::from(w.list[i]));
     }
-    Targets { list, count: n }
+    Targets {
+        list,
+        count: w.count,
+    }
 }
 
 // An answer goes outward, from the class's layer to the cell's (A7).
@@ -128,90 +109,77 @@ pub fn reversed(x: Targets) -> Targets
     requires { x.count ≤ max_layers }
     ensures { (targets_in result ≡ reverse (targets_in x)) × (result.count ≡ x.count) }
 {
-    let n = x.count;
-    let mut list = [0usize; CallLayers::MAX];
-    let mut i: usize = 0;
-    while i < n {
-        list[i] = x.list[n - i - 1];
-        i += 1;
+    let mut list = x.list;
+    list[..x.count].reverse();
+    Targets {
+        list,
+        count: x.count,
     }
-    Targets { list, count: n }
 }
 
-// The number of a refusal at layer i: at a later one than the first, 8 and 10 are 19 (C13).
-pub fn at_layer(i: usize, e: usize) -> usize
-    ensures { result ≡ at_layer (eqb i 0) e }
+// A refusal at layer i: at a later one than the first, 8 and 10 are 19 (C13).
+pub fn at_layer(i: usize, e: Refusal) -> Refusal
+    ensures { number_of result ≡ at_layer (eqb i 0) (number_of e) }
 {
-    if i == 0 {
-        return e;
+    match e {
+        Refusal::Unrelated | Refusal::NotStrict if i != 0 => Refusal::LaterLayer,
+        _ => e,
     }
-    if e == refusal::UNRELATED {
-        return refusal::LATER_LAYER;
-    }
-    if e == refusal::NOT_STRICT {
-        return refusal::LATER_LAYER;
-    }
-    e
 }
 
 // Whether a number is in a width: `low` is the least of it and `high` the greatest.
 fn in_width(v: i64, low: i64, high: i64) -> bool
     ensures { (h : ℕ) → low ≡ negsuc h → high ≡ pos h → result ≡ within (suc h) v }
 {
-    if v < low {
-        return false;
-    }
-    if high < v {
-        return false;
-    }
-    true
+    low <= v && v <= high
 }
 
-// C14: 16 for a number that is not one of 32 bits, else 0.
-fn fits32(v: i64) -> usize
+// C14: refused is a number that is not one of 32 bits.
+fn fits32(v: i64) -> Result<(), Refusal>
     ensures { passed_of result ≡ width_at v }
 {
     if in_width(v, -2147483648, 2147483647) {
-        return 0;
+        Ok(())
+    } else {
+        Err(Refusal::TooWide)
     }
-    refusal::TOO_WIDE
 }
 
-// A number at layer i, whose target is coded: its refusal, or 0 (C14, C15). A number that names no type is met as w32, as in the model.
-fn pass_one(types: &[u8; TYPE_BYTES], c: Counts, v: i64, target: usize, i: usize) -> usize
+// A number at layer i (C14, C15). A target that names no type is met as w32, as in the model.
+fn pass_one(
+    types: &[u8; TYPE_BYTES],
+    c: Counts,
+    v: i64,
+    target: Option<u8>,
+    i: usize,
+) -> Result<(), Refusal>
     requires { Limits c }
-    ensures { (l : List ℕ) → passed_of result ≡ pass_to (eqb i 0) (table_in types.now l c) v (answer_of target) }
+    ensures { (l : List ℕ) → passed_of result ≡ pass_to (eqb i 0) (table_in types.now l c) v (option_of target) }
 {
-    if target == 0 {
-        return at_layer(i, refusal::UNRELATED);
-    }
-    let t = target - 1;
+    let Some(t) = target else {
+        return Err(at_layer(i, Refusal::Unrelated));
+    };
+    let t = usize::from(t);
     if c.types <= t {
         return fits32(v);
     }
     let h = table_record::get_head(types, t);
     if h.rep == Head::REF {
-        return at_layer(i, refusal::UNRELATED);
+        return Err(at_layer(i, Refusal::Unrelated));
     }
     if h.rep == Head::W32 {
         return fits32(v);
     }
-    0
+    Ok(())
 }
 
-// A number passes each target in turn: its refusal, or 0.
-pub fn pass(types: &[u8; TYPE_BYTES], c: Counts, v: i64, targets: Targets) -> usize
+// A number passes each target in turn.
+pub fn pass(types: &[u8; TYPE_BYTES], c: Counts, v: i64, targets: Targets) -> Result<(), Refusal>
     requires { Limits c × (targets.count ≤ max_layers) }
     ensures { (l : List ℕ) → passed_of result ≡ pass_layers true (table_in types.now l c) v (targets_in targets) }
 {
-    let n = targets.count;
-    let mut i: usize = 0;
-    while i < n {
-        let e = pass_one(types, c, v, targets.list[i], i);
-        if e != 0 {
-            return e;
-        }
-        i += 1;
+    for i in 0..targets.count {
+        pass_one(types, c, v, targets.list[i], i)?;
     }
-    0
+    Ok(())
 }

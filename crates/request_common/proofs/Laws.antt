@@ -10,6 +10,7 @@ use lib.IntN.{ℤ, pos, negsuc}
 use lib.ListN.{length, get_or, get_or-append}
 use lib.Seq.{get_or_at}
 use borrow.Author.Tests.{ltb-true, lt-ltb, le-ltb}
+use Rattle.std.specs.Prelude.{Result as Either, Ok, Err}
 use Rattle.spec_model.specs.Basics.{Res, refuse, ok, need, names, named}
 use Rattle.spec_model.specs.Table.{Table, type_at, is_ref, is_class, max_types}
 use Rattle.spec_model.specs.Crossing.{Reference}
@@ -42,10 +43,11 @@ use Rattle.state_check_records.proofs.Laws.{ref-is, class-is}
 use Rattle.derive_sub_sup.specs.Link.{Kept}
 use Rattle.crossing_meet.specs.Crossed.{Grew}
 use Rattle.crossing_meet.proofs.Laws.{grown-checked, grew-on}
-use Rattle.request_common.specs.declared.Outcome.{Outcome}
-use Rattle.request_common.specs.declared.Outcome.TheVariants.{Refused, Pair, Number, Nothing}
-use Rattle.request_common.specs.declared.Served.{Served}
-use Rattle.request_common.specs.Served.{refusal, refusal_of, Done, done, Stored, Step, Arrives, arrived, is_sheet_class}
+use Rattle.base_numbers.specs.declared.refusal.Refusal.{Refusal}
+use Rattle.base_numbers.specs.Refusal.{number_of}
+use Rattle.request_common.specs.declared.Answer.TheVariants.{Pair}
+use Rattle.request_common.specs.declared.Answer.{Answer}
+use Rattle.request_common.specs.Served.{refusal_of, Done, done, Stored, Step, Arrives, arrived, is_sheet_class}
 
 -- ---- What is left of a state.
 pub stored-self : (s : State) → Sound s → Stored s s
@@ -75,20 +77,21 @@ stored-kept s t h k = record {
 }
 
 -- A refusal of a whole state, before its types were worked on and after.
-pub refuses : {s : State} {m : Res (System × Result)} {e : ℕ} {q : Done} → Sound s → m ≡ refuse e → q ≡ refusal_of s e → Step s m q
+pub refuses : {s : State} {m : Res (System × Result)} {e : Refusal} {q : Done} → Sound s → m ≡ refuse (number_of e) → q ≡ refusal_of s e → Step s m q
 refuses {s} {m} h z y = subst (Step s m) (sym y) (record { is = sym z; stays = λ d w. refl; stored = stored-self s h; sound = h })
 
-pub refuses-kept : {s : State} {t : List ℕ} {m : Res (System × Result)} {e : ℕ} {q : Done} → Sound s → length t ≡ types_size → Kept s.counts.types s.types t
-    → m ≡ refuse e → q ≡ refusal_of (with_types s t) e → Step s m q
+pub refuses-kept : {s : State} {t : List ℕ} {m : Res (System × Result)} {e : Refusal} {q : Done} → Sound s → length t ≡ types_size → Kept s.counts.types s.types t
+    → m ≡ refuse (number_of e) → q ≡ refusal_of (with_types s t) e → Step s m q
 refuses-kept {s} {t} {m} h long k z y = subst (Step s m) (sym y) (record { is = sym z; stays = λ d w. refl; stored = stored-kept s t h k; sound = sound-types s t long h })
 
--- The same with the answer as `refused` gives it.
-pub step-refuses-kept : {b t : List ℕ} {s : Rest} {m : Res (System × Result)} {e : ℕ} {r : Served} → Sound (whole b s) → length t ≡ types_size → Kept s.counts.types b t
-    → m ≡ refuse e → r ≡ refusal s e → Step (whole b s) m (done t r)
-step-refuses-kept {b} {t} {s} h long k z y = refuses-kept {s = whole b s} h long k z (ap (done t) y)
+-- The same with a refusal as a request returns it.
+pub step-refuses-kept : {b t : List ℕ} {s : Rest} {m : Res (System × Result)} {e : Refusal} {r : Either Answer Refusal} → Sound (whole b s) → length t ≡ types_size
+    → Kept s.counts.types b t → m ≡ refuse (number_of e) → r ≡ Err e → Step (whole b s) m (done t s r)
+step-refuses-kept {b} {t} {s} h long k z y = refuses-kept {s = whole b s} h long k z (ap (done t s) y)
 
-pub step-refuses : {b : List ℕ} {s : Rest} {m : Res (System × Result)} {e : ℕ} {r : Served} → Sound (whole b s) → m ≡ refuse e → r ≡ refusal s e → Step (whole b s) m (done b r)
-step-refuses {b} {s} h z y = refuses {s = whole b s} h z (ap (done b) y)
+pub step-refuses : {b : List ℕ} {s : Rest} {m : Res (System × Result)} {e : Refusal} {r : Either Answer Refusal} → Sound (whole b s) → m ≡ refuse (number_of e)
+    → r ≡ Err e → Step (whole b s) m (done b s r)
+step-refuses {b} {s} h z y = refuses {s = whole b s} h z (ap (done b s) y)
 
 -- a step of what comes to the same
 pub step-as : {s : State} {m n : Res (System × Result)} {r : Done} → m ≡ n → Step s n r → Step s m r
@@ -127,7 +130,7 @@ system-kept s t low k = system-is (with_types s t)
     ∙ sym (system-is s)
 
 -- so a refusal leaves what the state meant
-pub refused-means : {s : State} {m : Res (System × Result)} {r : Done} → Step s m r → (e : ℕ) → r.outcome ≡ Refused e → system_in r.state ≡ system_in s
+pub refused-means : {s : State} {m : Res (System × Result)} {r : Done} → Step s m r → (e : Refusal) → r.outcome ≡ Err e → system_in r.state ≡ system_in s
 refused-means {s} {r = r} h e z = ap system_in (h.stays e z) ∙ system-kept s r.state.types (omega (arith, h.stored.grew.more, h.stored.grew.room)) h.stored.kept
 
 -- a number that names one of n things is the index that `index_of` gives
@@ -209,9 +212,6 @@ module _ (b : List ℕ) (c : Counts) (limits : Limits c) (z : ℤ) (i : ℕ) (e 
 abbrev cell_by : ℕ → ℕ → ℕ → Cellᵐ
 cell_by holder ty place = record { holder = holder; type = ty; place = place }
 
-pub cell-eq : (a b c x y z : ℕ) → a ≡ x → b ≡ y → c ≡ z → cell_by a b c ≡ cell_by x y z
-cell-eq a b c x y z p q r = ap (λ (n : ℕ). cell_by n b c) p ∙ ap (λ (n : ℕ). cell_by x n c) q ∙ ap (cell_by x y) r
-
 module _ (s : State) (types : List ℕ) (n : ℕ) (ps : Places) (holder ty place : ℕ) (h : Arrives s types n ps ty place) where
   abbrev f : Reference
   f = arrived s types n ps ty place
@@ -233,12 +233,6 @@ module _ (s : State) (types : List ℕ) (n : ℕ) (ps : Places) (holder ty place
 
   pub cell-refused : max_cells ≤ s.cells.count → add_cell (system_in s) holder f ≡ refuse cells_full
   cell-refused l = adds-is ∙ ap Adds (le-ltb s.cells.count max_cells l)
-
-  pub ty-byte : ty < 256
-  ty-byte = let u = h.ty in let w = h.grew.room in omega arith
-
-  pub place_byte : place < 256
-  place_byte = let u = h.place in let w = h.descending.count in omega arith
 
   module _ (room : s.cells.count < max_cells) (c : Cell) (is : cell_of c ≡ cell_by holder ty place)
       (cells : Cells) (e : cells ≡ cell_added s.cells c) (are : cells_in cells ≡ cells_in s.cells ++ (cell_of c ∷ [])) where
@@ -268,10 +262,10 @@ module _ (s : State) (types : List ℕ) (n : ℕ) (ps : Places) (holder ty place
             let z : length (cells_in s.cells) ≡ k = cells-length s.cells ∙ (let w = count-is in omega arith) in
             subst (CellIn s') (sym (get_or_at (cells_in s.cells) (cell_of c) [] no_cell k z)) new-cell
 
-    pub cell-added : Step s (add_cell (system_in s) holder f) (record { outcome = Pair s.cells.count place; state = s' })
+    pub cell-added : Step s (add_cell (system_in s) holder f) (record { outcome = Ok (Pair s.cells.count place); state = s' })
     cell-added = record {
       is = ap (λ (x : System). ok (x, pair s.cells.count place)) means ∙ sym (adds-is ∙ ap Adds (lt-ltb s.cells.count max_cells room));
-      stays = λ d y. absurd (differ d y);
+      stays = λ d y. cc;
       stored = record { links = refl; counts = refl; grew = h.grew; kept = h.kept };
       sound = record {
         long = h.long;
@@ -286,6 +280,3 @@ module _ (s : State) (types : List ℕ) (n : ℕ) (ps : Places) (holder ty place
         };
       };
     }
-      where
-        differ : (d : ℕ) → Pair s.cells.count place ≡ Refused d → ⊥
-        differ d y = let z : ◌≡◌ {A = ℕ} 0 1 = ap (λ (a : Outcome). elim a [ Refused x ↦ 1 | Pair x y ↦ 0 | Number x ↦ 0 | Nothing ↦ 0 ]) y in omega arith

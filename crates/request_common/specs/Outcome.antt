@@ -1,27 +1,33 @@
 -- What a request came to, and what it leaves of a state, as contracts say it.
-use Rattle.std.specs.Prelude.{List, ℕ}
-use Rattle.spec_model.specs.Requests.{pair, number, nothing, Outcome as Outcomeᵐ, got, refused}
+use Rattle.std.specs.Prelude.{List, ℕ, Result, Ok, Err}
+use Rattle.spec_model.specs.Requests.{pair, number, nothing, Result as Resultᵐ, Outcome as Outcomeᵐ, got, refused}
+use Rattle.base_numbers.specs.declared.refusal.Refusal.{Refusal}
+use Rattle.base_numbers.specs.Refusal.{number_of}
+use Rattle.state_record.specs.declared.State.{State as Rest}
 use Rattle.state_record.specs.Whole.{Whole as State}
 use Rattle.state_record.specs.Whole.{whole}
-use Rattle.request_common.specs.declared.Outcome.{Outcome}
-use Rattle.request_common.specs.declared.Outcome.TheVariants.{Refused, Pair, Number, Nothing}
-use Rattle.request_common.specs.declared.Served.{Served}
+use Rattle.request_common.specs.declared.Answer.{Answer}
+use Rattle.request_common.specs.declared.Answer.TheVariants.{Pair, Number, Nothing}
 
--- the number of the refusal, or the values, for each case
-abbrev pub outcome_of : Outcome → Outcomeᵐ
-outcome_of (Refused e) = refused e
-outcome_of (Pair a b) = got (pair a b)
-outcome_of (Number v) = got (number v)
-outcome_of Nothing = got nothing
+-- the values, for each case
+abbrev pub result_of : Answer → Resultᵐ
+result_of (Pair a b) = pair a b
+result_of (Number v) = number v
+result_of Nothing = nothing
 
--- an outcome with the whole state that is left: the types as they are now, and the rest that comes back
+-- the values, or the number of the refusal
+abbrev pub outcome_of : Result Answer Refusal → Outcomeᵐ
+outcome_of (Ok a) = got (result_of a)
+outcome_of (Err e) = refused (number_of e)
+
+-- an outcome with the whole state that is left: the types as they are now, and the rest that was lent
 pub record Done : Type 0 where
-  pub outcome : Outcome
+  pub outcome : Result Answer Refusal
   pub state : State
 
-abbrev pub done : List ℕ → Served → Done
-done b r = record { outcome = r.outcome; state = whole b r.state }
+abbrev pub done : List ℕ → Rest → Result Answer Refusal → Done
+done b s r = record { outcome = r; state = whole b s }
 
 -- a refusal, with the whole state as it was handed in
-abbrev pub refusal_of : State → ℕ → Done
-refusal_of s e = record { outcome = Refused e; state = s }
+abbrev pub refusal_of : State → Refusal → Done
+refusal_of s e = record { outcome = Err e; state = s }

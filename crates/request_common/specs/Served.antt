@@ -1,6 +1,6 @@
 -- What a request came to and leaves, in the words of the model. A step is a request, or a part of one, on a state that is known to be sound; what it comes to is the
 -- model's `m`.
-use Rattle.std.specs.Prelude.{◌≡◌, Bool, ◌&&◌, List, ℕ, ◌≤◌, ◌<◌, ℤ, length}
+use Rattle.std.specs.Prelude.{◌≡◌, Bool, ◌&&◌, List, ℕ, ◌≤◌, ◌<◌, ℤ, length, Err}
 use Rattle.spec_model.specs.Basics.{Res, refuse, ok, names, named}
 use Rattle.spec_model.specs.Table.{Table, type_at, is_class}
 use Rattle.spec_model.specs.Crossing.{Reference}
@@ -9,14 +9,12 @@ use Rattle.table_record.specs.Store.{table_in, with_count}
 use Rattle.table_record.specs.Layout.{types_size}
 use Rattle.derive_sub_sup.specs.Link.{Kept}
 use Rattle.state_record.specs.declared.Places.{Places}
-use Rattle.state_record.specs.declared.State.{State as Rest}
 use Rattle.state_record.specs.Whole.{Whole as State}
 use Rattle.state_record.specs.View.{places_in, system_in, with_types}
 use Rattle.state_record.specs.Sound.{Descending, Typed, Sound}
 use Rattle.crossing_meet.specs.Crossed.{Grew, reference}
-use Rattle.request_common.specs.declared.Outcome.TheVariants.{Refused}
-use Rattle.request_common.specs.declared.Served.{Served}
-pub use Rattle.request_common.specs.Outcome.{outcome_of, Done, done, refusal_of}
+use Rattle.base_numbers.specs.declared.refusal.Refusal.{Refusal}
+pub use Rattle.request_common.specs.Outcome.{result_of, outcome_of, Done, done, refusal_of}
 
 -- what the outcome and the state left say together
 abbrev pub served_with : System → Outcomeᵐ → Res (System × Result)
@@ -25,10 +23,6 @@ served_with s (got x) = ok (s, x)
 
 abbrev pub served_as : Done → Res (System × Result)
 served_as r = served_with (system_in r.state) (outcome_of r.outcome)
-
--- a refusal, with the state as it was handed in
-abbrev pub refusal : Rest → ℕ → Served
-refusal s e = record { outcome = Refused e; state = s }
 
 -- What is left of the table: links and counts as they were but for the count of types, every byte of the types that there were, and each new type stored as the
 -- record that stands for it (B22).
@@ -42,7 +36,7 @@ pub record Stored (s s' : State) : Type 0 where
 -- next step can start from.
 pub record Step (s : State) (m : Res (System × Result)) (r : Done) : Type 0 where
   pub is : served_as r ≡ m
-  pub stays : (e : ℕ) → r.outcome ≡ Refused e → r.state ≡ with_types s r.state.types
+  pub stays : (e : Refusal) → r.outcome ≡ Err e → r.state ≡ with_types s r.state.types
   pub stored : Stored s r.state
   pub sound : Sound r.state
 

@@ -3,12 +3,14 @@ use mathlib.Core.Path.{◌≡◌, refl, ap, sym, ◌∙◌}
 use mathlib.Core.List.{List, [], ◌∷◌, ◌++◌}
 use mathlib.Core.Bool.{Bool, cond}
 use mathlib.Core.Option.{none, some}
-use Prim.Native.Nat.{ℕ, zero, suc, ◌+◌, ◌≤◌, ◌<◌}
+use Prim.Native.Nat.{ℕ, zero, suc, ◌+◌, ◌≤◌}
 use native.Mathlib.Omega.{arith}
-use lib.IntN.{ℤ, pos}
-use lib.ListN.{length, get_or, set, take}
-use lib.Seq.{take_all, take-suc, take-suc-set}
+use lib.IntN.{ℤ}
+use lib.ListN.{length, take}
+use Rattle.std.proofs.Math.Seq.{take-append_seam}
+use Rattle.std.proofs.lemmas.List.{take_min, length-append, length-take-le}
 use borrow.Author.Tests.{le-leb}
+use Rattle.std.specs.Prelude.{min}
 use Rattle.spec_model.specs.Table.{max_arguments}
 use Rattle.spec_model.specs.Requests.{call, answer}
 use Rattle.spec_model.specs.Coded.{by_code}
@@ -16,10 +18,6 @@ use Rattle.request_operands.specs.Given.{given_in}
 use Rattle.request_operands.specs.Operands.{answer_operands, call_operands, Listed}
 
 -- ---- Answer: a third operand where a value is given.
-pub answer-three : (g : ℕ) → (g ≡ 0 → ⊥) → 3 ≡ answer_operands g
-answer-three zero h = absurd (h refl)
-answer-three (suc g) h = refl
-
 module _ (g n : ℕ) (e : n ≡ answer_operands g) where
   pub answer-few : n ≤ 3
   answer-few = let f = go g in omega arith
@@ -35,23 +33,22 @@ module _ (g n : ℕ) (e : n ≡ answer_operands g) where
       go zero = refl
       go (suc k) = refl
 
--- ---- Call: i of the arguments stand behind the first three operands.
+-- ---- Call: the first n of the arguments stand behind the first three operands.
 module _ (s k m : ℤ) (vs : List ℤ) where
-  module _ (items : List ℤ) (i : ℕ) (size : length items ≡ 3 + suc max_arguments) (few : i ≤ suc max_arguments) (is : take (3 + i) items ≡ s ∷ k ∷ m ∷ take i vs) where
-    listed : take i vs ≡ take (suc max_arguments) vs → Listed (call_operands s k m vs) (record { count = 3 + i; items = items })
-    listed e = record { is = is ∙ ap (λ (xs : List ℤ). s ∷ k ∷ m ∷ xs) e; fits = omega arith }
+  pub listed : (xs rest : List ℤ) (n : ℕ) → n ≡ min (length vs) (suc max_arguments) → xs ≡ take n vs → Listed (call_operands s k m vs) (record { count = 3 + n; items = s ∷ k ∷ m ∷ (xs ++ rest) })
+  listed xs rest n e is = record {
+    is = let z : 3 + n ≡ suc (suc (suc n)) = omega arith in ap (λ (j : ℕ). take j (s ∷ k ∷ m ∷ (xs ++ rest))) z ∙ ap (λ (ys : List ℤ). s ∷ k ∷ m ∷ ys) (front ∙ is ∙ cut);
+    fits = omega (arith, length-append xs rest, long);
+  }
+    where
+      long : length xs ≡ n
+      long = ap length is ∙ length-take-le n vs (omega arith)
 
-    pub listed-all : length vs ≤ i → Listed (call_operands s k m vs) (record { count = 3 + i; items = items })
-    listed-all l = listed (take_all i vs l ∙ sym (take_all (suc max_arguments) vs (omega arith)))
+      front : take n (xs ++ rest) ≡ xs
+      front = ap (λ (j : ℕ). take j (xs ++ rest)) (sym long) ∙ take-append_seam xs rest
 
-    pub listed-cut : max_arguments < i → Listed (call_operands s k m vs) (record { count = 3 + i; items = items })
-    listed-cut l = let e : i ≡ suc max_arguments = omega arith in listed (ap (λ (n : ℕ). take n vs) e)
-
-    pub listed_next : i ≤ max_arguments → i < length vs → take (3 + (i + 1)) (set items (3 + i) (get_or vs i (pos 0))) ≡ s ∷ k ∷ m ∷ take (i + 1) vs
-    listed_next l h =
-        let v = get_or vs i (pos 0) in let e : 3 + (i + 1) ≡ suc (3 + i) = omega arith in let f : suc i ≡ i + 1 = omega arith in
-        ap (λ (n : ℕ). take n (set items (3 + i) v)) e ∙ take-suc-set items (3 + i) v (omega arith) ∙ ap (λ (xs : List ℤ). xs ++ (v ∷ [])) is
-        ∙ ap (λ (xs : List ℤ). s ∷ k ∷ m ∷ xs) (sym (take-suc vs i (pos 0) h) ∙ ap (λ (n : ℕ). take n vs) f)
+      cut : take n vs ≡ take (suc max_arguments) vs
+      cut = let z : n ≡ min (suc max_arguments) (length vs) = omega arith in ap (λ (j : ℕ). take j vs) z ∙ take_min (suc max_arguments) vs
 
   pub call-is : (ws : List ℤ) → ws ≡ call_operands s k m vs → by_code 2 ws ≡ some (call s k m (take (suc max_arguments) vs))
   call-is ws e = ap (by_code 2) e ∙ ap (λ (b : Bool). cond b (some (call s k m (take (suc max_arguments) vs))) none) (le-leb 3 (length (call_operands s k m vs)) (omega arith))

@@ -37,39 +37,22 @@ pub fn call_operands(subject: i64, cell: i64, method: i64, arguments: &[i64]) ->
     items[0] = subject;
     items[1] = cell;
     items[2] = method;
-    let mut i: usize = 0;
-    while i <= Counts::ARGUMENTS {
-        if arguments.len() <= i {
-            return Operands {
-                count: FIRST + i,
-                items,
-            };
-        }
-        items[FIRST + i] = arguments[i];
-        i += 1;
-    }
-    Operands {
-        count: FIRST + i,
-        items,
-    }
+    let n = arguments.len().min(Counts::ARGUMENTS + 1);
+    let count = FIRST + n;
+    items[FIRST..count].copy_from_slice(&arguments[..n]);
+    Operands { count, items }
 }
 
 // How many operands an answer has: a third where a value is given (U5).
 pub fn answer_count(given: usize) -> usize
     ensures { result ≡ answer_operands given }
 {
-    if given == 0 {
-        return 2;
-    }
-    3
+    if given == 0 { 2 } else { 3 }
 }
 
 // Whether so many operands of a code are an answer of nothing (U5).
 pub fn is_nothing(code: usize, operands: usize) -> bool
     ensures { result ≡ true → (code ≡ 3) × (operands ≡ 2) }
 {
-    if code != ANSWER {
-        return false;
-    }
-    operands == 2
+    code == ANSWER && operands == 2
 }

@@ -1,17 +1,14 @@
--- The number names no cell, or one whose holder is compared; a signed local is kept as 64 bits, from which `to_z-of_z` reads it back.
-use native.Mathlib.Omega.{arith}
+-- The number names a cell, whose holder is compared, or none; `to_z-of_z` as in `is_subject`.
+use mathlib.Core.Path.{◌∙◌}
 use mir.Facts.{to_z-of_z}
+use borrow.Author.Tests.{le-ltb}
 use Rattle.request_common.proofs.Laws.{held-not, held_by}
 use Rattle.request_common.proofs.is_held.Goals as goal
 
-pub returns-then-cs-i : goal.returns-then-cs-i
-returns-then-cs-i c = λ s subject h w. let a = c.args in held-not a.cs a.k _
-    (rw (to_z-of_z c.ranges.k) at c.index_of-i.ensures) s subject h c.if-cs-i.true
+pub returns-then-i-cs : goal.returns-then-i-cs
+returns-then-i-cs c = λ s subject h w. let a = c.args in held_by a.cs a.k _ (rw (to_z-of_z c.ranges.k) at c.index_of-i.ensures) s subject h
+    c.if-i-cs.true a.who _ c.cell_at.result w c.from.ensures (c.cell_at.ensures.1 c.if-i-cs.true)
 
-pub cell_at-c-requires : goal.cell_at-c-requires
-cell_at-c-requires c = omega (arith, c.if-cs-i.false, c.requires)
-
-pub returns : goal.returns
-returns c = λ s subject h w. let a = c.args in
-    held_by a.cs a.k _ (rw (to_z-of_z c.ranges.k) at c.index_of-i.ensures) s subject h
-    c.if-cs-i.false a.who _ c.cell_at-c.result w c.wide.ensures.0 (c.cell_at-c.ensures.1 c.if-cs-i.false)
+pub returns-else-i-cs : goal.returns-else-i-cs
+returns-else-i-cs c = λ s subject h w. let a = c.args in le-ltb _ _ c.if-i-cs.false ∙ held-not a.cs a.k _
+    (rw (to_z-of_z c.ranges.k) at c.index_of-i.ensures) s subject h c.if-i-cs.false

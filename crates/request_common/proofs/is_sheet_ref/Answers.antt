@@ -1,16 +1,14 @@
--- The number names no sheet type, or one whose record is read; `to_z-of_z` as in `is_subject`.
-use native.Mathlib.Omega.{arith}
+-- The number names a sheet type, whose record is read, or none; `to_z-of_z` as in `is_subject`.
+use mathlib.Core.Path.{◌∙◌}
 use mir.Facts.{to_z-of_z}
+use borrow.Author.Tests.{le-ltb}
 use Rattle.request_common.proofs.Laws.{sheet-ref-not, sheet-ref-is}
 use Rattle.request_common.proofs.is_sheet_ref.Goals as goal
 
-pub returns-then-c-i : goal.returns-then-c-i
-returns-then-c-i c = λ s t n. let a = c.args in sheet-ref-not a.types.now a.c c.requires a.z _
-    (rw (to_z-of_z c.ranges.z) at c.index_of-i.ensures) s t n c.if-c-i.true
+pub returns-then-i-c : goal.returns-then-i-c
+returns-then-i-c c = λ s t n. let a = c.args in sheet-ref-is a.types.now a.c c.requires a.z _
+    (rw (to_z-of_z c.ranges.z) at c.index_of-i.ensures) s t n c.if-i-c.true _ c.is_ref.ensures
 
-pub is_ref-requires : goal.is_ref-requires
-is_ref-requires c = omega (arith, c.if-c-i.false, c.requires.sheet)
-
-pub returns : goal.returns
-returns c = λ s t n. let a = c.args in sheet-ref-is a.types.now a.c c.requires a.z _
-    (rw (to_z-of_z c.ranges.z) at c.index_of-i.ensures) s t n c.if-c-i.false _ c.is_ref.ensures
+pub returns-else-i-c : goal.returns-else-i-c
+returns-else-i-c c = λ s t n. let a = c.args in le-ltb _ _ c.if-i-c.false ∙ sheet-ref-not a.types.now a.c c.requires a.z _
+    (rw (to_z-of_z c.ranges.z) at c.index_of-i.ensures) s t n c.if-i-c.false

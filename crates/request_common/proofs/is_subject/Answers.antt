@@ -4,4 +4,4 @@ use Rattle.request_common.proofs.Laws.{subject-is}
 use Rattle.request_common.proofs.is_subject.Goals as goal
 
 pub returns : goal.returns
-returns c = subject-is c.args.c c.args.z _ (rw (to_z-of_z c.ranges.z) at c.index_of-i.ensures)
+returns c = subject-is c.args.c c.args.z _ (rw (to_z-of_z c.ranges.z) at c.index_of.ensures)
