@@ -9,7 +9,7 @@ use lib.ListN.{length, set, take, length-set}
 use lib.Seq.{take-suc-set, append_snoc, length-take-le}
 use Rattle.spec_model.specs.Crossing.{Place as Placeᵐ, place_at, place_type, max_places}
 use Rattle.spec_model.specs.Requests.{layers_of}
-use Rattle.state_record.specs.declared.Places.{Places}
+use Rattle.state_record.specs.Counted.{Places}
 use Rattle.state_record.specs.View.{places_in, is_object, behind_of}
 use Rattle.state_record.specs.Sound.{Descending}
 use Rattle.state_places.specs.Behind.{LayersAt}

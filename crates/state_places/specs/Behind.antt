@@ -2,7 +2,7 @@
 use Rattle.std.specs.Prelude.{◌≡◌, true, List, ℕ, ◌-◌, ◌≤◌, ◌<◌, take}
 use Rattle.spec_model.specs.Crossing.{max_places, place_at, base_of}
 use Rattle.spec_model.specs.Requests.{layers_of, adapter_count}
-use Rattle.state_record.specs.declared.Places.{Places}
+use Rattle.state_record.specs.Counted.{Places}
 use Rattle.state_record.specs.View.{places_in, is_object}
 use Rattle.state_places.specs.declared.Layers.{Layers}
 

@@ -12,83 +12,47 @@ ghost use Rattle.state_places.specs.Behind.{BaseAt, LayersAt};
 use state_record::{Place, PlaceRec, Places, State};
 
 // The types that a value passes at a place (C9): the closed types of the adapters, outermost first, and the class last.
+// Kept: an array with its count, by a rule (Q8: fixed memory, no heap).
 #[derive(Clone, Copy)]
 pub struct Layers {
     pub list: [u8; State::PLACES],
     pub count: usize,
 }
 
-fn type_in(p: Place) -> u8
-    ensures { result ≡ place_type (place_of p) }
-{
-    match p {
-        Place::Object { class, owner: _ } => class,
-        Place::Adapter { behind: _, closed } => closed,
-    }
-}
-
-fn owner_in(p: Place) -> u8
-    ensures { result ≡ owner_of (place_of p) }
-{
-    match p {
-        Place::Object { class: _, owner } => owner,
-        Place::Adapter {
-            behind: _,
-            closed: _,
-        } => 0,
-    }
-}
-
-fn behind_in(p: Place) -> u8
-    ensures { result ≡ behind_of (place_of p) }
-{
-    match p {
-        Place::Object { class: _, owner: _ } => 0,
-        Place::Adapter { behind, closed: _ } => behind,
-    }
-}
-
-fn object_in(p: Place) -> bool
-    ensures { result ≡ is_object (place_of p) }
-{
-    match p {
-        Place::Object { class: _, owner: _ } => true,
-        Place::Adapter {
-            behind: _,
-            closed: _,
-        } => false,
-    }
-}
-
 // The type of a place (Q3).
 pub fn place_type(p: PlaceRec) -> usize
     ensures { (result ≡ place_type (place_of p.place)) × (result < 256) }
 {
-    let x = p.place;
-    base_numbers::wide(type_in(x))
+    usize::from(match p.place {
+        Place::Object { class, .. } => class,
+        Place::Adapter { closed, .. } => closed,
+    })
 }
 
 // The owner of an object; 0 for an adapter.
 pub fn place_owner(p: PlaceRec) -> usize
     ensures { (result ≡ owner_of (place_of p.place)) × (result < 256) }
 {
-    let x = p.place;
-    base_numbers::wide(owner_in(x))
+    match p.place {
+        Place::Object { owner, .. } => usize::from(owner),
+        Place::Adapter { .. } => 0,
+    }
 }
 
 // The place behind an adapter; 0 for an object.
 pub fn place_behind(p: PlaceRec) -> usize
     ensures { (result ≡ behind_of (place_of p.place)) × (result < 256) }
 {
-    let x = p.place;
-    base_numbers::wide(behind_in(x))
+    match p.place {
+        Place::Object { .. } => 0,
+        Place::Adapter { behind, .. } => usize::from(behind),
+    }
 }
 
 pub fn is_object(p: PlaceRec) -> bool
     ensures { result ≡ is_object (place_of p.place) }
 {
-    let x = p.place;
-    object_in(x)
+    matches!(p.place, Place::Object { .. })
 }
 
 // The base of place p (Q2): what is behind lies below, so it is reached.
@@ -97,8 +61,8 @@ pub fn base_of(ps: Places, p: usize) -> usize
     ensures { BaseAt ps p result }
 {
     let mut base = p;
-    while !is_object(ps.list[base]) {
-        base = place_behind(ps.list[base]);
+    while let Place::Adapter { behind, .. } = ps.list[base].place {
+        base = usize::from(behind);
     }
     base
 }
@@ -108,7 +72,7 @@ pub fn base_owner(ps: Places, p: usize) -> usize
     ensures { (result ≡ base_owner (places_in ps) p) × (result < 256) }
 {
     let base = base_of(ps, p);
-    place_owner(state_record::place_at(ps, base))
+    place_owner(ps.at(base))
 }
 
 // The layers of place p (C9).
@@ -119,13 +83,12 @@ pub fn layers_of(ps: Places, p: usize) -> Layers
     let mut list = [0u8; State::PLACES];
     let mut count: usize = 0;
     let mut at = p;
-    while !is_object(ps.list[at]) {
-        let x = ps.list[at];
-        list[count] = base_numbers::narrow(place_type(x));
+    while let Place::Adapter { behind, closed } = ps.list[at].place {
+        list[count] = closed;
         count += 1;
-        at = place_behind(x);
+        at = usize::from(behind);
     }
-    list[count] = base_numbers::narrow(place_type(ps.list[at]));
+    list[count] = place_type(ps.list[at]) as u8;
     Layers {
         list,
         count: count + 1,

@@ -9,11 +9,11 @@ use Rattle.state_places.proofs.base_owner.Goals as goal
 pub base_of-base-requires : goal.base_of-base-requires
 base_of-base-requires c = c.requires
 
-pub place_at-requires : goal.place_at-requires
-place_at-requires c = omega (arith, c.base_of-base.ensures.below, c.requires.0.count)
+pub at-requires : goal.at-requires
+at-requires c = omega (arith, c.base_of-base.ensures.below, c.requires.0.count)
 
 pub returns : goal.returns
 returns c = let b = c.base_of-base.ensures in (
-  c.place_owner.ensures.0 ∙ ap owner_of (c.place_at.ensures.1 b.below) ∙ ap (λ (n : ℕ). owner_of (place_at (places_in c.args.ps) n)) b.is,
+  c.place_owner.ensures.0 ∙ ap owner_of (c.at.ensures.1 b.below) ∙ ap (λ (n : ℕ). owner_of (place_at (places_in c.args.ps) n)) b.is,
   c.place_owner.ensures.1,
 )
