@@ -12,13 +12,13 @@ use Rattle.spec_sheet.proofs.Lines.{unsplit, unsplit-split}
 use Rattle.spec_doors.specs.Input.{times_line, Input, input_lines}
 use Rattle.spec_doors.proofs.Forms.{input-form}
 use Rattle.text_cursor.specs.declared.Cursor.{Cursor}
-use Rattle.text_read.specs.View.{read_by}
-use Rattle.text_read.specs.declared.Got.{Got}
-use Rattle.text_read.specs.declared.Got.TheVariants.{Refused, At}
+use Rattle.text_read.specs.View.{reading_by}
+use Rattle.text_read.specs.declared.Malformed.{Malformed}
+use Rattle.base_numbers.specs.Refusal.{number_of}
+use Rattle.std.specs.Prelude.{Option, Some, None, Result, Ok, Err}
+use Rattle.std.specs.Result.{result_ok}
 use Rattle.text_read.proofs.Laws.{at-end}
 use Rattle.doors_read.specs.View.{Stored, Gives, LineRead, Whole}
-use Rattle.doors_read.specs.declared.Line.{Line}
-use Rattle.doors_read.specs.declared.Line.TheVariants.{Wrong, Right}
 
 -- ---- What is left behind the arrivals, behind the marks and behind the tolerance.
 abbrev pub behind_arrivals : ℕ → List ℕ → List ℕ → Reader Input
@@ -34,28 +34,32 @@ behind_tolerance w = bind (line times_line) (behind_marks w)
 abbrev pub FormWrong : Reading Input → Type 0
 FormWrong R = (at : ℕ) × (R ≡ refused form at)
 
-module _ (s : List ℕ) (c : Cursor) (g : Got) (z : c.at ≡ 0)
-    (e : read_by (λ n. n) s c.at g ≡ line (number_line (bytes "within=") 0 top) c.at (split (drop c.at s))) where
-  first-line : input_lines 0 (split s) ≡ follow (read_by (λ n. n) s c.at g) behind_tolerance
+module _ (s : List ℕ) (c : Cursor) (g : Result (ℕ × Cursor) Malformed) (z : c.at ≡ 0)
+    (e : reading_by (λ n. n) s g ≡ line (number_line (bytes "within=") 0 top) c.at (split (drop c.at s))) where
+  first-line : input_lines 0 (split s) ≡ follow (reading_by (λ n. n) s g) behind_tolerance
   unfolding input_lines
   first-line = sym (ap (λ R. follow R behind_tolerance) e ∙ ap (λ (a : ℕ). follow (line (number_line (bytes "within=") 0 top) a (split (drop a s))) behind_tolerance) z)
 
-  pub no-tolerance : (k : ℕ) → g ≡ Refused k → FormWrong (input_lines 0 (split s))
-  no-tolerance k q =
-      let r : input_lines 0 (split s) ≡ refused k c.at = first-line ∙ ap (λ g. follow (read_by (λ n. n) s c.at g) behind_tolerance) q in
-      (c.at, r ∙ ap (λ (n : ℕ). refused n c.at) (rw r at (input-form 0 (split s))))
+  pub no-tolerance : None ≡ result_ok g → FormWrong (input_lines 0 (split s))
+  no-tolerance n = go g refl n
+    where
+      go : (r : Result (ℕ × Cursor) Malformed) → g ≡ r → None ≡ result_ok r → FormWrong (input_lines 0 (split s))
+      go (Ok p) q n = cc
+      go (Err k) q n =
+          let r : input_lines 0 (split s) ≡ refused (number_of k.refusal) k.at = first-line ∙ ap (λ g. follow (reading_by (λ n. n) s g) behind_tolerance) q in
+          (k.at, r ∙ ap (λ (n : ℕ). refused n k.at) (rw r at (input-form 0 (split s))))
 
-  pub tolerance : (w : ℕ) (d : Cursor) → g ≡ At w d → input_lines 0 (split s) ≡ behind_tolerance w d.at (split (drop d.at s))
-  tolerance w d q = first-line ∙ ap (λ g. follow (read_by (λ n. n) s c.at g) behind_tolerance) q
+  pub tolerance : (p : ℕ × Cursor) → g ≡ Ok p → input_lines 0 (split s) ≡ behind_tolerance p.0 p.1.at (split (drop p.1.at s))
+  tolerance p q = first-line ∙ ap (λ g. follow (reading_by (λ n. n) s g) behind_tolerance) q
 
 -- a line of times, behind which k goes on
 module _ (R : Reading Input) (s : List ℕ) (at : ℕ) (k : List ℕ → Reader Input) (e : R ≡ bind (line times_line) k at (split (drop at s)))
-    (items : List ℕ) (x : Line) (h : LineRead (line times_line at (split (drop at s))) s at items x) where
-  pub no-times : x ≡ Wrong → FormWrong R
+    (items : List ℕ) (x : Option (ℕ × Cursor)) (h : LineRead (line times_line at (split (drop at s))) s at items x) where
+  pub no-times : x ≡ None → FormWrong R
   no-times q = (at, e ∙ ap (λ M. follow M k) (subst (LineRead (line times_line at (split (drop at s))) s at items) q h))
 
-  pub times : (n : ℕ) (d : Cursor) → x ≡ Right n d → Gives R (λ xs. k xs d.at (split (drop d.at s))) items n
-  times n d q = let g : LineRead (line times_line at (split (drop at s))) s at items (Right n d) = subst (LineRead (line times_line at (split (drop at s))) s at items) q h in
+  pub times : (p : ℕ × Cursor) → x ≡ Some p → Gives R (λ xs. k xs p.1.at (split (drop p.1.at s))) items p.0
+  times p q = let g : LineRead (line times_line at (split (drop at s))) s at items (Some p) = subst (LineRead (line times_line at (split (drop at s))) s at items) q h in
       record { times = g.times; is = e ∙ ap (λ M. follow M k) g.is; stored = g.stored }
 
 -- ---- The end.

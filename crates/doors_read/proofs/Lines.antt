@@ -12,9 +12,7 @@ use Rattle.text_cursor.specs.View.{LineAt, past}
 use Rattle.text_cursor.specs.declared.Cursor.{Cursor}
 use Rattle.text_cursor.proofs.Laws.{past-rest}
 use Rattle.doors_read.specs.View.{Gives, TimesRead, LineRead}
-use Rattle.doors_read.specs.declared.TimesLine.{TimesLine}
-use Rattle.doors_read.specs.declared.TimesLine.TheVariants.{Wrong, Right}
-use Rattle.doors_read.specs.declared.Line.TheVariants.{Right as Rightˡ}
+use Rattle.std.specs.Prelude.{Option, Some, None}
 
 module _ (s : List ℕ) (at : ℕ) (d : Cursor) (p : d.at ≡ past at (split (drop at s))) where
   pub no_line : d.at ≤ at → line times_line at (split (drop at s)) ≡ refused form at
@@ -43,10 +41,10 @@ module _ (s : List ℕ) (at : ℕ) (d : Cursor) (p : d.at ≡ past at (split (dr
         go (cut m ∷ rs) e = let q : d.at ≡ at = p ∙ ap (past at) e in absurd (omega arith)
         go (row m ∷ rs) e = by m rs e (times_line m) ∙ ap (λ z. passed (times_line z)) (sym (h.is ∙ ap first_line e))
 
-    module _ (items : List ℕ) (k : TimesLine) (t : TimesRead (times_line l) items k) where
-      pub wrong-line : k ≡ Wrong → line times_line at (split (drop at s)) ≡ refused form at
+    module _ (items : List ℕ) (k : Option ℕ) (t : TimesRead (times_line l) items k) where
+      pub wrong-line : k ≡ None → line times_line at (split (drop at s)) ≡ refused form at
       wrong-line e = line-is ∙ ap passed (subst (TimesRead (times_line l) items) e t)
 
-      pub right-line : (m : ℕ) → k ≡ Right m → LineRead (line times_line at (split (drop at s))) s at items (Rightˡ m d)
+      pub right-line : (m : ℕ) → k ≡ Some m → LineRead (line times_line at (split (drop at s))) s at items (Some (m, d))
       right-line m e = let g : Gives (times_line l) ok items m = subst (TimesRead (times_line l) items) e t in
           record { times = g.times; is = line-is ∙ ap passed g.is; stored = g.stored }

@@ -1,24 +1,22 @@
 -- A cursor that stays tells that no LF ends a line there. Else each case of the line is the same case of the reading.
-use native.Mathlib.Omega.{arith}
+use Rattle.std.proofs.Common.{◌≡◌, None, arith, rules}
 use Rattle.doors_read.proofs.Lines.{no_line, wrong-line, right-line}
 use Rattle.doors_read.proofs.next_times.Goals as goal
 
-pub returns-then-d-c : goal.returns-then-d-c
-returns-then-d-c c =
+pub returns-then-d-c-clause-is : goal.returns-then-d-c-clause-is
+returns-then-d-c-clause-is c =
     let d = c.next_line-d in
-    record { is = no_line c.args.s.now _ d.result d.ensures (omega (arith, c.if-d-c.true)); size = c.requires }
+    no_line c.args.s.now _ d.result d.ensures (omega (arith, c.if-d-c.true))
 
-pub between-l-requires : goal.between-l-requires
-between-l-requires c = c.next_line-d.ensures
-
-pub returns-in-Wrong : goal.returns-in-Wrong
-returns-in-Wrong c =
+pub returns-in_err-n-clause-is : goal.returns-in_err-n-clause-is
+returns-in_err-n-clause-is c =
     let d = c.next_line-d in
-    let t = c.read_times-t in
-    record { is = wrong-line _ _ d.result d.ensures (omega (arith, c.if-d-c.false)) _ c.between-l.ensures _ _ t.ensures.is c.in-Wrong.is; size = t.ensures.size }
+    let t = c.read_times in
+    let e : c.from_residual.result ≡ None = search rules in
+    rw e (wrong-line _ _ d.result d.ensures (omega (arith, c.if-d-c.false)) _ c.between.ensures _ _ t.ensures.is c.in_err-n.was)
 
-pub returns-in-Right : goal.returns-in-Right
-returns-in-Right c =
+pub returns-clause-is : goal.returns-clause-is
+returns-clause-is c =
     let d = c.next_line-d in
-    let t = c.read_times-t in
-    record { is = right-line _ _ d.result d.ensures (omega (arith, c.if-d-c.false)) _ c.between-l.ensures _ _ t.ensures.is _ c.in-Right.is; size = t.ensures.size }
+    let t = c.read_times in
+    right-line _ _ d.result d.ensures (omega (arith, c.if-d-c.false)) _ c.between.ensures _ _ t.ensures.is _ c.in_ok-n.was
