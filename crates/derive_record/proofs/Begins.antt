@@ -1,8 +1,10 @@
 -- How a derivation begins: the search for a known type, which sheet types are not part of, and what needs no search.
 use mathlib.Core.Path.{◌≡◌, refl, sym, ap, ◌∙◌}
-use mathlib.Core.Bool.{Bool, true, false, ◌&&◌, cond}
+use mathlib.Core.Bool.{Bool, true, false, ◌&&◌}
 use mathlib.Core.List.{List, ◌∷◌}
-use mathlib.Core.Option.{Option, none, some}
+use mathlib.Core.Option.{none, some}
+use mathlib.Core.Option.{Option as Optionᵐ}
+use Rattle.std.specs.Prelude.{Option, None, Some}
 use Prim.Native.Nat.{ℕ, zero, suc, ◌+◌, ◌-◌, ◌≤◌, ◌<◌}
 use native.Mathlib.Omega.{arith}
 use native.Mathlib.Numerals.{add-one}
@@ -10,26 +12,25 @@ use lib.Dec.{eqb, ltb}
 use lib.ListN.{get_or}
 use borrow.Author.Tests.{eq-eqb, ne_eqb, lt-ltb, le-ltb}
 use Rattle.spec_model.specs.Basics.{from}
-use Rattle.spec_model.specs.Table.{Kind, closed, Ty, Table, type_at, is_ref, max_types}
+use Rattle.spec_model.specs.Table.{Kind, sub, sup, closed, Ty, Table, type_at, is_ref, max_types}
 use Rattle.spec_model.specs.Restriction.{is_key, find, without_new, main_side}
-use Rattle.spec_model.specs.Check.{RawType, no_raw_type, rep_of, kind_of, type_of}
+use Rattle.spec_model.specs.Check.{RawType, no_raw_type, rep_of, type_of}
 use Rattle.spec_model.proofs.Rules.{second}
 use Rattle.table_record.specs.declared.Counts.{Counts}
-use Rattle.table_record.specs.Store.{types_in, types_to, head_of, ref_in}
+use Rattle.table_record.specs.declared.Kind.{Kind as Kindᵃ}
+use Rattle.table_record.specs.declared.Kind.TheVariants.{Sub, Sup, Closed}
+use Rattle.table_record.specs.Store.{kind_is, types_in, types_to, head_of, ref_in}
 use Rattle.table_record.proofs.Tables.{ref-type}
-use Rattle.derive_record.specs.declared.Derived.TheVariants.{Full, At}
-use Rattle.derive_record.specs.declared.Begun.{Begun}
-use Rattle.derive_record.specs.declared.Begun.TheVariants.{Settled, New}
 use Rattle.derive_slots.specs.Slots.{key_in}
-use Rattle.derive_record.specs.Begins.{tabled, found_of, Begins}
+use Rattle.derive_record.specs.Begins.{Derived, tabled, Begins}
 
 -- The search, from type i on.
 find-by : (d : Kind) (t s i : ℕ) (x : Ty) (xs : List Ty) (b : Bool) → b ≡ is_key d t s x.key → find d t s i (x ∷ xs) ≡ elim b [ true ↦ some i | false ↦ find d t s (suc i) xs ]
 unfolding find
-find-by d t s i x xs b e = ap (λ (a : Bool). elim a as (λ _. Option ℕ) [ true ↦ some i | false ↦ find d t s (suc i) xs ]) (sym e)
+find-by d t s i x xs b e = ap (λ (a : Bool). elim a as (λ _. Optionᵐ ℕ) [ true ↦ some i | false ↦ find d t s (suc i) xs ]) (sym e)
 
 module _ (d : Kind) (t s n : ℕ) (x : ℕ → Ty) where
-  abbrev Left : ℕ → Option ℕ
+  abbrev Left : ℕ → Optionᵐ ℕ
   Left i = find d t s i (from (n - i) i x)
 
   one_more : (i : ℕ) → i < n → from (n - i) i x ≡ x i ∷ from (n - (i + 1)) (suc i) x
@@ -57,7 +58,7 @@ module _ (d : Kind) (t s ms sh n : ℕ) (rs : List RawType) where
   abbrev Type-at : ℕ → Ty
   Type-at i = type_of ms sh i (get_or rs i no_raw_type)
 
-  abbrev pub Rest : ℕ → Option ℕ
+  abbrev pub Rest : ℕ → Optionᵐ ℕ
   Rest i = find d t s i (from (n - i) i Type-at)
 
   sheet-key : (i : ℕ) → i < sh → (Type-at i).key ≡ none
@@ -71,90 +72,83 @@ module _ (d : Kind) (t s ms sh n : ℕ) (rs : List RawType) where
   search-starts h = find-from d t s n Type-at sh h sheet-key
 
   module _ (i : ℕ) (low : sh ≤ i) (so : find d t s 0 (types_to ms sh n rs) ≡ Rest i) where
-    pub search-hit : i < n → true ≡ is_key d t s (key_in (head_of (get_or rs i no_raw_type))) → found_of n i ≡ find d t s 0 (types_to ms sh n rs)
-    search-hit h e = ap (λ (b : Bool). cond b (some i) none) (lt-ltb i n h) ∙ sym (so ∙ find-here d t s n Type-at i h (e ∙ derived-key i low))
+    pub search-hit : i < n → true ≡ is_key d t s (key_in (head_of (get_or rs i no_raw_type))) → some i ≡ find d t s 0 (types_to ms sh n rs)
+    search-hit h e = sym (so ∙ find-here d t s n Type-at i h (e ∙ derived-key i low))
 
     pub search-next : i < n → false ≡ is_key d t s (key_in (head_of (get_or rs i no_raw_type))) → find d t s 0 (types_to ms sh n rs) ≡ Rest (i + 1)
     search-next h e = so ∙ find-next d t s n Type-at i h (e ∙ derived-key i low)
 
-    pub search-end : n ≤ i → found_of n n ≡ find d t s 0 (types_to ms sh n rs)
-    search-end h = ap (λ (b : Bool). cond b (some n) none) (le-ltb n n (omega arith)) ∙ sym (so ∙ find-end d t s n Type-at i h)
+    pub search-end : n ≤ i → none ≡ find d t s 0 (types_to ms sh n rs)
+    search-end h = sym (so ∙ find-end d t s n Type-at i h)
 
 -- Reference types.
 pub ref-rep : (n t : ℕ) (b : List ℕ) → ref_in n b t ≡ true → is_ref (rep_of (get_or (types_in b) t no_raw_type).rep) ≡ true
 ref-rep n t b e = second (ltb t n) _ e
 
 -- What the search comes to.
-module _ (o : Table → Option ℕ) (n t s : ℕ) (b : List ℕ) (i : ℕ) (is : (T : Table) → found_of n i ≡ o T) where
-  pub found-known : i < n → Begins o n t s b (Settled (At i n))
-  found-known h = (λ T. sym (is T) ∙ ap (λ (a : Bool). cond a (some i) none) (lt-ltb i n h), refl, λ z p q r. omega arith)
+module _ (o : Table → Optionᵐ ℕ) (n t s : ℕ) (b : List ℕ) where
+  pub found-known : (i : ℕ) → ((T : Table) → some i ≡ o T) → i < n → Begins o n t s b (Some (Some (i, n)))
+  found-known i is h = (λ T. sym (is T), refl, λ z p q r. omega arith)
 
-  none_found : n ≤ i → (T : Table) → o T ≡ none
-  none_found h T = sym (is T) ∙ ap (λ (a : Bool). cond a (some i) none) (le-ltb i n h)
+  pub found-full : ((T : Table) → none ≡ o T) → max_types ≤ n → Begins o n t s b (Some None)
+  found-full is l = (λ T. sym (is T), l)
 
-  pub found-full : n ≤ i → max_types ≤ n → Begins o n t s b (Settled Full)
-  found-full h l = (none_found h, l)
+  pub found-new : ((T : Table) → none ≡ o T) → n < max_types → ref_in n b t ≡ true → ref_in n b s ≡ true → Begins o n t s b None
+  found-new is l p q = (λ T. sym (is T), l, p, q)
 
-  pub found-new : n ≤ i → n < max_types → ref_in n b t ≡ true → ref_in n b s ≡ true → Begins o n t s b New
-  found-new h l p q = (none_found h, l, p, q)
+begins-same : (o u : Table → Optionᵐ ℕ) (n t s : ℕ) (b : List ℕ) (g : Option Derived) → ((T : Table) → u T ≡ o T) → Begins o n t s b g → Begins u n t s b g
+begins-same o u n t s b (Some None) e h = (λ T. e T ∙ h.0 T, h.1)
+begins-same o u n t s b (Some (Some p)) e h = (λ T. e T ∙ h.0 T, h.1, h.2)
+begins-same o u n t s b None e h = (λ T. e T ∙ h.0 T, h.1, h.2, h.3)
 
-begins-same : (o u : Table → Option ℕ) (n t s : ℕ) (b : List ℕ) (g : Begun) → ((T : Table) → u T ≡ o T) → Begins o n t s b g → Begins u n t s b g
-begins-same o u n t s b (Settled Full) e h = (λ T. e T ∙ h.0 T, h.1)
-begins-same o u n t s b (Settled (At i m)) e h = (λ T. e T ∙ h.0 T, h.1, h.2)
-begins-same o u n t s b New e h = (λ T. e T ∙ h.0 T, h.1, h.2, h.3)
-
--- Sub and Sup keep one of the sides.
-pub main-sup : (kind t s : ℕ) → kind ≡ 1 → s ≡ main_side (kind_of kind) t s
-main-sup kind t s e = ap (λ (k : ℕ). main_side (kind_of k) t s) (sym e)
-
-pub main-other : (kind t s : ℕ) → (kind ≡ 1 → ⊥) → t ≡ main_side (kind_of kind) t s
-main-other zero t s h = refl
-main-other (suc zero) t s h = absurd (h refl)
-main-other (suc (suc kind)) t s h = refl
+pub not-closed : (k : Kindᵃ) → (k ≡ Closed → ⊥) → kind_is k ≡ closed → ⊥
+not-closed Sub h e = cc
+not-closed Sup h e = cc
+not-closed Closed h e = h refl
 
 -- D12 and D13: the same type twice, and numbers.
-module _ (kind t s : ℕ) (l : kind < 2) where
-  abbrev Plain : Table → Bool → Bool → ℕ → Option ℕ
-  Plain T same refs k = elim same [ true ↦ some t | false ↦ elim refs [ true ↦ find (kind_of k) t s 0 T.types | false ↦ some (main_side (kind_of k) t s) ] ]
+abbrev Plain : ℕ → ℕ → Kind → Table → Bool → Bool → Optionᵐ ℕ
+Plain t s d T same refs = elim same [ true ↦ some t | false ↦ elim refs [ true ↦ find d t s 0 T.types | false ↦ some (main_side d t s) ] ]
 
-  plain : (T : Table) (k : ℕ) → k < 2 → without_new T (kind_of k) t s ≡ Plain T (eqb t s) (is_ref (type_at T t).rep && is_ref (type_at T s).rep) k
-  unfolding without_new
-  plain T zero h = refl
-  plain T (suc zero) h = refl
-  plain T (suc (suc k)) h = absurd (omega arith)
+plain : (t s : ℕ) (d : Kind) (T : Table) → (d ≡ closed → ⊥) → without_new T d t s ≡ Plain t s d T (eqb t s) (is_ref (type_at T t).rep && is_ref (type_at T s).rep)
+unfolding without_new
+plain t s sub T h = refl
+plain t s sup T h = refl
+plain t s closed T h = absurd (h refl)
 
+module _ (d : Kind) (t s : ℕ) (half : d ≡ closed → ⊥) where
   module _ (c : Counts) (n : ℕ) (b : List ℕ) where
-    abbrev Without : Table → Option ℕ
-    Without T = without_new (tabled T c n b) (kind_of kind) t s
+    abbrev Without : Table → Optionᵐ ℕ
+    Without T = without_new (tabled T c n b) d t s
 
     refs-are : (T : Table) → (is_ref (type_at (tabled T c n b) t).rep && is_ref (type_at (tabled T c n b) s).rep) ≡ (ref_in n b t && ref_in n b s)
     refs-are T = rw (ref-type n t b c.methods c.sheet, ref-type n s b c.methods c.sheet)
 
-    without : (T : Table) → Without T ≡ Plain (tabled T c n b) (eqb t s) (ref_in n b t && ref_in n b s) kind
-    without T = plain (tabled T c n b) kind l ∙ ap (λ (a : Bool). Plain (tabled T c n b) (eqb t s) a kind) (refs-are T)
+    without : (T : Table) → Without T ≡ Plain t s d (tabled T c n b) (eqb t s) (ref_in n b t && ref_in n b s)
+    without T = plain t s d (tabled T c n b) half ∙ ap (Plain t s d (tabled T c n b) (eqb t s)) (refs-are T)
 
-    pub begins-self : t ≡ s → Begins Without n t s b (Settled (At t n))
-    begins-self e = (λ T. without T ∙ ap (λ (a : Bool). Plain (tabled T c n b) a (ref_in n b t && ref_in n b s) kind) (eq-eqb t s e), refl, λ z p q r. q)
+    pub begins-self : t ≡ s → Begins Without n t s b (Some (Some (t, n)))
+    begins-self e = (λ T. without T ∙ ap (λ (a : Bool). Plain t s d (tabled T c n b) a (ref_in n b t && ref_in n b s)) (eq-eqb t s e), refl, λ z p q r. q)
 
-    main-below : (k own z : ℕ) → own ≡ main_side (kind_of k) t s → t < z → s < z → own < z
-    main-below zero own z e p q = omega arith
-    main-below (suc zero) own z e p q = omega arith
-    main-below (suc (suc k)) own z e p q = omega arith
+    main-below : (k : Kind) (own z : ℕ) → own ≡ main_side k t s → t < z → s < z → own < z
+    main-below sub own z e p q = omega arith
+    main-below sup own z e p q = omega arith
+    main-below closed own z e p q = omega arith
 
-    pub begins-number : (own : ℕ) → own ≡ main_side (kind_of kind) t s → (t ≡ s → ⊥) → (ref_in n b t && ref_in n b s) ≡ false → Begins Without n t s b (Settled (At own n))
+    pub begins-number : (own : ℕ) → own ≡ main_side d t s → (t ≡ s → ⊥) → (ref_in n b t && ref_in n b s) ≡ false → Begins Without n t s b (Some (Some (own, n)))
     begins-number own e ne off = (
-      λ T. without T ∙ ap (λ (a : Bool). Plain (tabled T c n b) a (ref_in n b t && ref_in n b s) kind) (ne_eqb t s ne) ∙ ap (λ (a : Bool). Plain (tabled T c n b) false a kind) off ∙ ap some
+      λ T. without T ∙ ap (λ (a : Bool). Plain t s d (tabled T c n b) a (ref_in n b t && ref_in n b s)) (ne_eqb t s ne) ∙ ap (λ (a : Bool). Plain t s d (tabled T c n b) false a) off ∙ ap some
           (sym e),
       refl,
-      λ z p q r. main-below kind own z e q r,
+      λ z p q r. main-below d own z e q r,
     )
 
-    pub begins-search : (g : Begun) → (t ≡ s → ⊥) → ref_in n b t ≡ true → ref_in n b s ≡ true
-        → Begins (λ T. find (kind_of kind) t s 0 (types_to c.methods c.sheet n (types_in b))) n t s b g → Begins Without n t s b g
+    pub begins-search : (g : Option Derived) → (t ≡ s → ⊥) → ref_in n b t ≡ true → ref_in n b s ≡ true
+        → Begins (λ T. find d t s 0 (types_to c.methods c.sheet n (types_in b))) n t s b g → Begins Without n t s b g
     begins-search g ne p q =
-        begins-same (λ T. find (kind_of kind) t s 0 (types_to c.methods c.sheet n (types_in b))) Without n t s b g
-        (λ T. without T ∙ ap (λ (a : Bool). Plain (tabled T c n b) a (ref_in n b t && ref_in n b s) kind) (ne_eqb t s ne)
-        ∙ ap (λ (a : Bool). Plain (tabled T c n b) false (a && ref_in n b s) kind) p ∙ ap (λ (a : Bool). Plain (tabled T c n b) false a kind) q)
+        begins-same (λ T. find d t s 0 (types_to c.methods c.sheet n (types_in b))) Without n t s b g
+        (λ T. without T ∙ ap (λ (a : Bool). Plain t s d (tabled T c n b) a (ref_in n b t && ref_in n b s)) (ne_eqb t s ne)
+        ∙ ap (λ (a : Bool). Plain t s d (tabled T c n b) false (a && ref_in n b s)) p ∙ ap (λ (a : Bool). Plain t s d (tabled T c n b) false a) q)
 
 pub not_left : (a b : Bool) → a ≡ false → (a && b) ≡ false
 not_left a b e = rw e
@@ -164,7 +158,7 @@ not_right true b e = e
 not_right false b e = refl
 
 -- Closed has only the search.
-pub closed-begins : (c : Counts) (n t s : ℕ) (b : List ℕ) (g : Begun) → Begins (λ T. find closed t s 0 (types_to c.methods c.sheet n (types_in b))) n t s b g → Begins
+pub closed-begins : (c : Counts) (n t s : ℕ) (b : List ℕ) (g : Option Derived) → Begins (λ T. find closed t s 0 (types_to c.methods c.sheet n (types_in b))) n t s b g → Begins
     (λ T. without_new (tabled T c n b) closed t s) n t s b g
 unfolding without_new
 closed-begins c n t s b g h = h

@@ -4,134 +4,100 @@
 // which signatures are derived in crate `derive_slots`, the record itself in `derive_type`.
 #![tactic(auto)]
 
-ghost use Rattle.std.specs.Prelude.{◌≡◌, true, ◌≤◌, ◌<◌, length};
+ghost use Rattle.std.specs.Prelude.{◌≡◌, ◌≢◌, true, ◌≤◌, ◌<◌, length, IfSome};
 ghost use Rattle.spec_model.specs.Restriction.{find, without_new, main_side};
-ghost use Rattle.spec_model.specs.Check.{kind_of};
 ghost use Rattle.spec_model.specs.Table.{max_methods, max_types};
-ghost use Rattle.table_record.specs.Store.{types_in, types_to, ref_in, with_count};
+ghost use Rattle.table_record.specs.Store.{kind_is, option_of, types_in, types_to, ref_in, with_count};
+ghost use Rattle.table_record.specs.declared.Kind.TheVariants.{Closed};
 ghost use Rattle.table_record.specs.Limits.{Limits};
 ghost use Rattle.table_record.specs.Layout.{types_size};
-ghost use Rattle.derive_record.specs.Begins.{Begins, Opened, Stored, found_of, tabled};
+ghost use Rattle.derive_record.specs.Begins.{Begins, Opened, Stored, tabled};
 
 use derive_slots::SLOT_BYTES;
 use derive_type::Work;
-use table_record::{Counts, Key, TYPE_BYTES};
+use table_record::{Counts, Key, Kind, TYPE_BYTES};
 
-// What a derivation comes to: the table is full, or the type's number and how many types there are now.
-#[derive(Clone, Copy)]
-pub enum Derived {
-    Full,
-    At(usize, usize),
-}
+// What a derivation comes to: the type's number and how many types there are now; None where no number is free for it.
+pub type Derived = Option<(usize, usize)>;
 
-// How a derivation begins: it is answered at once, or a new type is made.
-#[derive(Clone, Copy)]
-pub enum Begun {
-    Settled(Derived),
-    New,
-}
-
-// The lowest of n types with this key, or n. Sheet types are not searched (D14).
-pub fn lookup(b: &[u8; TYPE_BYTES], c: Counts, n: usize, key: Key) -> usize
-    requires { (key.kind < 3) × Limits (with_count c n) }
-    ensures { found_of n result ≡ find (kind_of key.kind) key.left key.right 0 (types_to c.methods c.sheet n (types_in b.now)) }
+// The lowest of n types with this key. Sheet types are not searched (D14).
+pub fn lookup(b: &[u8; TYPE_BYTES], c: Counts, n: usize, key: Key) -> Option<usize>
+    requires { Limits (with_count c n) }
+    ensures is { option_of result ≡ find (kind_is key.kind) key.left key.right 0 (types_to c.methods c.sheet n (types_in b.now)) }
+    ensures below { IfSome result (λ i. i < n) }
 {
-    let mut i = c.sheet;
-    while i < n {
-        let h = table_record::get_head(b, i);
-        if derive_slots::is_key(h, key) {
-            return i;
+    for i in c.sheet..n {
+        if derive_slots::is_key(table_record::get_head(b, i), key) {
+            return Some(i);
         }
-        i += 1;
     }
-    n
+    None
 }
 
-// Of two reference types: the known type, or whether there is room for a new one (D14, D15).
-pub fn search(b: &[u8; TYPE_BYTES], c: Counts, n: usize, kind: u8, t: usize, s: usize) -> Begun
-    requires { (kind < 3) × Limits (with_count c n) × (ref_in n b.now t ≡ true) × (ref_in n b.now s ≡ true) }
-    ensures { Begins (λ T. find (kind_of kind) t s 0 (types_to c.methods c.sheet n (types_in b.now))) n t s b.now result }
+// Of two reference types: the known type, or that the table is full; None where there is room for a new type (D14, D15).
+pub fn search(b: &[u8; TYPE_BYTES], c: Counts, n: usize, key: Key) -> Option<Derived>
+    requires { Limits (with_count c n) × (ref_in n b.now key.left ≡ true) × (ref_in n b.now key.right ≡ true) }
+    ensures { Begins (λ T. find (kind_is key.kind) key.left key.right 0 (types_to c.methods c.sheet n (types_in b.now))) n key.left key.right b.now result }
 {
-    let key = Key {
-        kind,
-        left: t,
-        right: s,
-    };
-    let found = lookup(b, c, n, key);
-    if found < n {
-        return Begun::Settled(Derived::At(found, n));
+    if let Some(known) = lookup(b, c, n, key) {
+        return Some(Some((known, n)));
     }
     if n >= Counts::TYPES {
-        return Begun::Settled(Derived::Full);
+        return Some(None);
     }
-    Begun::New
+    None
 }
 
 // The side that Sub or Sup keeps (D13).
-fn main_side(kind: u8, t: usize, s: usize) -> usize
-    ensures { result ≡ main_side (kind_of kind) t s }
+fn main_side(key: Key) -> usize
+    ensures { result ≡ main_side (kind_is key.kind) key.left key.right }
 {
-    if kind == Key::SUP {
-        return s;
+    match key.kind {
+        Kind::Sup => key.right,
+        Kind::Sub | Kind::Closed => key.left,
     }
-    t
 }
 
-// Sub or Sup of a type with itself is that type, and of numbers the main side (D12, D13).
-pub fn begin(b: &[u8; TYPE_BYTES], c: Counts, n: usize, kind: u8, t: usize, s: usize) -> Begun
-    requires { (kind < 2) × Limits (with_count c n) }
-    ensures { Begins (λ T. without_new (tabled T c n b.now) (kind_of kind) t s) n t s b.now result }
+// What a derivation comes to that needs no new type: Sub or Sup of a type with itself is that type, and of numbers the main side (D12, D13).
+pub fn begin(b: &[u8; TYPE_BYTES], c: Counts, n: usize, key: Key) -> Option<Derived>
+    requires { (key.kind ≢ Closed) × Limits (with_count c n) }
+    ensures { Begins (λ T. without_new (tabled T c n b.now) (kind_is key.kind) key.left key.right) n key.left key.right b.now result }
 {
-    if t == s {
-        return Begun::Settled(Derived::At(t, n));
+    if key.left == key.right {
+        return Some(Some((key.left, n)));
     }
-    let main = main_side(kind, t, s);
-    let left = table_record::names_ref(b, n, t);
-    if !left {
-        return Begun::Settled(Derived::At(main, n));
+    if !table_record::names_ref(b, n, key.left) || !table_record::names_ref(b, n, key.right) {
+        return Some(Some((main_side(key), n)));
     }
-    let right = table_record::names_ref(b, n, s);
-    if !right {
-        return Begun::Settled(Derived::At(main, n));
-    }
-    search(b, c, n, kind, t, s)
+    search(b, c, n, key)
 }
 
 // Both sides are read. The new type has its number from here on (D16); until its signatures are there every method of it is denied.
 // It stays a function by itself, so that its records are not on the stack of each derivation that others are nested in.
 #[inline(never)]
-pub fn start(b: &mut [u8; TYPE_BYTES], n: usize, kind: u8, t: usize, s: usize) -> Work
-    requires { (n < max_types) × (t < max_types) × (s < max_types) × (length b.old ≡ types_size) }
-    ensures { Opened kind t s n result b.old b.new }
+pub fn start(b: &mut [u8; TYPE_BYTES], n: usize, key: Key) -> Work
+    requires { (n < max_types) × (key.left < max_types) × (key.right < max_types) × (length b.old ≡ types_size) }
+    ensures { Opened key n result b.old b.new }
 {
-    let x = table_record::get_type(b, t);
-    let y = table_record::get_type(b, s);
-    let key = Key {
-        kind,
-        left: t,
-        right: s,
-    };
-    let lefthead = x.head;
-    let left = x.methods;
-    let righthead = y.head;
-    let right = y.methods;
     let w = Work {
         key,
-        lefthead,
-        left,
-        righthead,
-        right,
+        left: table_record::get_type(b, key.left),
+        right: table_record::get_type(b, key.right),
     };
-    let z = derive_type::pending(w);
-    table_store::put_type(b, n, z);
+    table_store::put_type(b, n, w.pending());
     w
 }
 
 // The type at work is stored, whole (B13).
-pub fn finish(b: &mut [u8; TYPE_BYTES], n: usize, w: Work, methods: usize, bytes: [u8; SLOT_BYTES])
-    requires { (n < max_types) × (length b.old ≡ types_size) × (w.key.kind < 3) × (w.key.left < 256) × (w.key.right < 256) × (methods ≤ max_methods) }
-    ensures { Stored w methods n bytes b.old b.new }
+pub fn finish(
+    b: &mut [u8; TYPE_BYTES],
+    n: usize,
+    w: &Work,
+    methods: usize,
+    bytes: &[u8; SLOT_BYTES],
+)
+    requires { (n < max_types) × (length b.old ≡ types_size) × (w.now.key.left < 256) × (w.now.key.right < 256) × (methods ≤ max_methods) }
+    ensures { Stored w.now methods n bytes.now b.old b.new }
 {
-    let z = derive_type::finished(w, methods, bytes);
-    table_store::put_type(b, n, z);
+    table_store::put_type(b, n, w.finished(methods, bytes));
 }

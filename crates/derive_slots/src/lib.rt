@@ -3,15 +3,14 @@
 #![tactic(auto)]
 
 ghost use Rattle.std.specs.Prelude.{◌≡◌, ◌<◌, take};
-ghost use Rattle.spec_model.specs.Restriction.{restricted, same_kind, is_key};
+ghost use Rattle.spec_model.specs.Restriction.{restricted, is_key};
 ghost use Rattle.spec_model.specs.Check.{state_of, kind_of, answer_of, method_of};
 ghost use Rattle.spec_model.specs.Table.{max_types};
 ghost use Rattle.spec_model.specs.Records.{argument_slots};
-ghost use Rattle.table_record.specs.Store.{raw_method};
+ghost use Rattle.table_record.specs.Store.{kind_is, raw_method};
 ghost use Rattle.derive_slots.specs.Slots.{answer_slot, argument_slot, slot_of, slot_at, method_at, Low, method_slots, slots_size, key_in, kept_state};
 
-use base_numbers::wide;
-use table_record::{Counts, Head, Key, Method, TYPE_BYTES, get_method, permits};
+use table_record::{Counts, Head, Key, Kind, Method, TYPE_BYTES, get_method, permits};
 
 // The slots of a method, and those of all methods, a byte to each.
 pub const METHOD_SLOTS: usize = Method::SLOTS + 1;
@@ -19,48 +18,27 @@ pub const METHOD_SLOTS: usize = Method::SLOTS + 1;
 pub const SLOT_BYTES: usize = Counts::METHODS * METHOD_SLOTS;
 
 // What is derived for a slot of a new type: nothing, an argument or an answer, from these two types.
-#[derive(Clone, Copy)]
+#[derive(Clone, Copy, Debug, PartialEq, Eq)]
 pub enum Slot {
     Empty,
     Argument(usize, usize),
     Answer(usize, usize),
 }
 
-// A code past the last kind is read as Closed (B5).
-fn same_kind(kind: u8, k: u8) -> bool
-    requires { kind < 3 }
-    ensures { result ≡ same_kind (kind_of kind) (kind_of k) }
-{
-    if kind == Key::CLOSED {
-        return Key::CLOSED <= k;
-    }
-    k == kind
-}
-
 // Whether a derived type's head has this key (D14). The left number comes first: it tells most types apart, the kind few.
 pub fn is_key(h: Head, key: Key) -> bool
-    requires { key.kind < 3 }
-    ensures { result ≡ is_key (kind_of key.kind) key.left key.right (key_in h) }
+    ensures { result ≡ is_key (kind_is key.kind) key.left key.right (key_in h) }
 {
-    let l = wide(h.left);
-    if key.left != l {
-        return false;
-    }
-    let r = wide(h.right);
-    if key.right != r {
-        return false;
-    }
-    same_kind(key.kind, h.kind)
+    key.left == usize::from(h.left)
+        && key.right == usize::from(h.right)
+        && key.kind == Kind::from(h.kind)
 }
 
 // A code past the last state is read as unavail, and stored as unavail's (B8).
 fn state_code(x: u8) -> u8
     ensures { (state_of result ≡ state_of x) × (result < 4) }
 {
-    if x < Method::UNAVAIL {
-        return x;
-    }
-    Method::UNAVAIL
+    x.min(Method::UNAVAIL)
 }
 
 // The main side's state, except that a method it permits and the other doesn't is lost (D2, D4).
@@ -68,54 +46,34 @@ fn kept_state(main: u8, other: u8, lost: u8) -> u8
     requires { lost < 4 }
     ensures { (state_of result ≡ kept_state (state_of main) (state_of other) (state_of lost)) × (result < 4) }
 {
-    let own = state_code(main);
-    let p = permits(own);
-    if !p {
-        return own;
+    if permits(main) && !permits(other) {
+        lost
+    } else {
+        state_code(main)
     }
-    let q = permits(other);
-    if q {
-        return own;
-    }
-    lost
 }
 
 // The state of a method in the derived type, from its states on the left and on the right (D2, D4, D8).
-pub fn state_of(kind: u8, x: u8, y: u8) -> u8
-    requires { kind < 3 }
-    ensures { (state_of result ≡ restricted (kind_of kind) (state_of x) (state_of y)) × (result < 4) }
+pub fn state_of(kind: Kind, x: u8, y: u8) -> u8
+    ensures { (state_of result ≡ restricted (kind_is kind) (state_of x) (state_of y)) × (result < 4) }
 {
-    if kind == Key::SUB {
-        return kept_state(x, y, Method::UNAVAIL);
+    match kind {
+        Kind::Sub => kept_state(x, y, Method::UNAVAIL),
+        Kind::Sup => kept_state(y, x, Method::DENIED),
+        Kind::Closed if y == Method::AVAIL && permits(x) => Method::AVAIL,
+        Kind::Closed => Method::UNAVAIL,
     }
-    if kind == Key::SUP {
-        return kept_state(y, x, Method::DENIED);
-    }
-    if y != Method::AVAIL {
-        return Method::UNAVAIL;
-    }
-    let p = permits(x);
-    if p {
-        return Method::AVAIL;
-    }
-    Method::UNAVAIL
 }
 
 // The answer slot, from the answer bytes of both sides.
 fn answer_slot(x: u8, y: u8) -> Slot
     ensures { (result ≡ answer_slot (answer_of x) (answer_of y)) × Low result }
 {
-    let l = wide(x);
-    let r = wide(y);
-    if l == 0 {
-        return Slot::Empty;
+    if x == 0 || y == 0 {
+        Slot::Empty
+    } else {
+        Slot::Answer(usize::from(x) - 1, usize::from(y) - 1)
     }
-    if r == 0 {
-        return Slot::Empty;
-    }
-    let left = l - 1;
-    let right = r - 1;
-    Slot::Answer(left, right)
 }
 
 // Argument slot i: the sides are exchanged, the right side's argument on the left (D5, D6).
@@ -123,12 +81,7 @@ fn argument_slot(p: Method, q: Method, i: usize) -> Slot
     requires { i < argument_slots }
     ensures { (result ≡ argument_slot i (take p.count p.args) (take q.count q.args)) × Low result }
 {
-    let c = wide(p.count);
-    let e = wide(q.count);
-    if c <= i {
-        return Slot::Empty;
-    }
-    if e <= i {
+    if usize::from(p.count.min(q.count)) <= i {
         return Slot::Empty;
     }
     let left = q.argument(i);
@@ -137,25 +90,23 @@ fn argument_slot(p: Method, q: Method, i: usize) -> Slot
 }
 
 // Slot i of a method: four arguments, then the answer; nothing where the derived type doesn't permit the method.
-fn slot_of(kind: u8, p: Method, q: Method, i: usize) -> Slot
-    requires { (kind < 3) × (i < method_slots) }
-    ensures { (result ≡ slot_of (kind_of kind) (method_of (raw_method p)) (method_of (raw_method q)) i) × Low result }
+fn slot_of(kind: Kind, p: Method, q: Method, i: usize) -> Slot
+    requires { i < method_slots }
+    ensures { (result ≡ slot_of (kind_is kind) (method_of (raw_method p)) (method_of (raw_method q)) i) × Low result }
 {
-    let state = state_of(kind, p.state, q.state);
-    let stays = permits(state);
-    if !stays {
-        return Slot::Empty;
+    if !permits(state_of(kind, p.state, q.state)) {
+        Slot::Empty
+    } else if i == Method::SLOTS {
+        answer_slot(p.answer, q.answer)
+    } else {
+        argument_slot(p, q, i)
     }
-    if i == Method::SLOTS {
-        return answer_slot(p.answer, q.answer);
-    }
-    argument_slot(p, q, i)
 }
 
 // Slot k of all, five to a method, of the types that the key names.
 pub fn slot_at(b: &[u8; TYPE_BYTES], key: Key, k: usize) -> Slot
-    requires { (key.kind < 3) × (key.left < max_types) × (key.right < max_types) × (k < slots_size) }
-    ensures { (result ≡ slot_at (kind_of key.kind) (method_at b.now key.left) (method_at b.now key.right) k) × Low result }
+    requires { (key.left < max_types) × (key.right < max_types) × (k < slots_size) }
+    ensures { (result ≡ slot_at (kind_is key.kind) (method_at b.now key.left) (method_at b.now key.right) k) × Low result }
 {
     let j = k / METHOD_SLOTS;
     let p = get_method(b, key.left, j);

@@ -9,13 +9,13 @@ use lib.Dec.{leb, ltb}
 use lib.ListN.{length, get_or, set, take, replicate, length-set, length-map, get_or-map}
 use lib.Seq.{take-nil, get_or-set_other}
 use borrow.Author.Tests.{le-ltb}
-use Rattle.spec_model.specs.Table.{Kind, permit, max_arguments, max_methods}
+use Rattle.spec_model.specs.Table.{Kind, sub, sup, closed, permit, max_arguments, max_methods}
 use Rattle.spec_model.specs.Table as model
 use Rattle.spec_model.specs.Restriction.{restricted}
-use Rattle.spec_model.specs.Check.{RawMethod, RawType, no_raw_method, state_of, kind_of, method_of}
+use Rattle.spec_model.specs.Check.{RawMethod, no_raw_method, state_of, method_of}
 use Rattle.spec_model.proofs.Rules.{both, second, imply, applied}
 use Rattle.spec_model.proofs.Tests.{so-ltb, leb-so, so-leb}
-use Rattle.spec_model.specs.Records.{argument_slots}
+use Rattle.spec_model.specs.Records.{argument_slots, kind_code}
 use Rattle.table_record.specs.declared.Method.{Method}
 use Rattle.table_record.specs.declared.TypeRec.{TypeRec}
 use Rattle.table_record.specs.Store.{raw_method, raw_of, empty_method, blank_method, MethodExact, TypeExact}
@@ -25,8 +25,8 @@ use Rattle.law_table.proofs.Exact.{unsigned-exact, signed-exact, derived-key, re
 use Rattle.derive_slots.specs.Slots.{method_slots}
 use Rattle.derive_slots.proofs.Laws.{stays, left-on, right-on}
 use Rattle.derive_type.specs.declared.Work.{Work}
-use Rattle.derive_type.specs.NewType.{shared, fill, fill_at, left_in, right_in, method_in, raw_in, MethodCoded, bare_method, slot_byte, signed_method}
-use Rattle.derive_type.specs.NewType.{kind_in, cat_in, main_of, new_record, Finished}
+use Rattle.derive_type.specs.NewType.{shared, fill, fill_at, method_in, raw_in, MethodCoded, bare_method, slot_byte, signed_method}
+use Rattle.derive_type.specs.NewType.{kind_in, new_record, Finished}
 
 -- how many arguments are shared
 take-shared : (c e : ℕ) (ps qs ns : List ℕ) → length ns ≤ length ps → length ns ≤ length qs → take (min c e) ns ≡ take (shared (take c ps) (take e qs)) ns
@@ -102,27 +102,10 @@ module _ (d : Kind) (p q : RawMethod) where
             let u = min-le_left (min p.count q.count) argument_slots in
             let v = min-le_left p.count q.count in omega arith
 
--- A method's bytes, and a type's head, put together from their parts.
-pub signed-bytes : (st count : ℕ) (args : List ℕ) (a : ℕ) {n x₀ x₁ x₂ x₃ : ℕ} → n ≡ count → x₀ ≡ slot_byte count args 0 → x₁ ≡ slot_byte count args 1
-    → x₂ ≡ slot_byte count args 2
-    → x₃ ≡ slot_byte count args 3
-    → ◌≡◌ {A = RawMethod} (record { state = st; count = n; args = x₀ ∷ x₁ ∷ x₂ ∷ x₃ ∷ []; answer = a }) (signed_method st count args a)
-signed-bytes st count args a e e₀ e₁ e₂ e₃ = rw (e, e₀, e₁, e₂, e₃)
-
-pub head-made : (w : Work) (ms : List RawMethod) {cat left right : ℕ} → cat ≡ cat_in w → left ≡ w.key.left → right ≡ w.key.right
-    → ◌≡◌ {A = RawType} (record { rep = 0; cat = cat; own = 0; kind = w.key.kind; left = left; right = right; methods = ms }) (new_record w ms)
-head-made w ms e l r = rw (e, l, r)
-
-pub main-right : (w : Work) → w.key.kind ≡ 1 → w.righthead.cat ≡ cat_in w
-main-right w e = ap (λ (k : ℕ). (main_of (kind_of k) (left_in w) (right_in w)).head.cat) (sym e)
-
-pub main-left : (w : Work) → (w.key.kind ≡ 1 → ⊥) → w.lefthead.cat ≡ cat_in w
-main-left w n = go w.key.kind n
-  where
-    go : (k : ℕ) → (k ≡ 1 → ⊥) → w.lefthead.cat ≡ (main_of (kind_of k) (left_in w) (right_in w)).head.cat
-    go zero n = refl
-    go (suc zero) n = absurd (n refl)
-    go (suc (suc k)) n = refl
+code-low : (d : Kind) → kind_code d < 3
+code-low sub = omega arith
+code-low sup = omega arith
+code-low closed = omega arith
 
 -- Methods of the code, as records.
 pub raw-methods : (ms : List Method) (j : ℕ) → raw_method (get_or ms j absent) ≡ get_or (map raw_method ms) j no_raw_method
@@ -144,8 +127,8 @@ filled-here d x y ns j p q m ep eq em =
 -- The loop over the methods: those before j are made from their slots, the others are blank.
 module _ (w : Work) (ns : List ℕ) where
   abbrev Well : ℕ → Method → Type 0
-  Well j m = (method_of (raw_method m) ≡ fill_at (kind_in w) (method_in (left_in w)) (method_in (right_in w)) ns j) ×
-      (MethodExact (raw_method m) × (MethodCoded (raw_in (left_in w) j) → MethodCoded (raw_method m)))
+  Well j m = (method_of (raw_method m) ≡ fill_at (kind_in w) (method_in w.left) (method_in w.right) ns j) ×
+      (MethodExact (raw_method m) × (MethodCoded (raw_in w.left j) → MethodCoded (raw_method m)))
 
   pub record Filling (ms : ℕ) (all : List Method) (j : ℕ) : Type 0 where
     pub low : j ≤ ms
@@ -162,8 +145,8 @@ module _ (w : Work) (ns : List ℕ) where
       blank-at (suc n) zero h = refl
       blank-at (suc n) (suc i) h = blank-at n i (le_of_suc-le-suc h)
 
-  pub filling-next : {ms : ℕ} {all : List Method} {j : ℕ} → Filling ms all j → j < ms → ms ≤ max_methods → (p q m : Method) → raw_method p ≡ raw_in (left_in w) j
-      → raw_method q ≡ raw_in (right_in w) j
+  pub filling-next : {ms : ℕ} {all : List Method} {j : ℕ} → Filling ms all j → j < ms → ms ≤ max_methods → (p q m : Method) → raw_method p ≡ raw_in w.left j
+      → raw_method q ≡ raw_in w.right j
       → (method_of (raw_method m) ≡ fill (kind_in w) (method_of (raw_method p)) (method_of (raw_method q))
       (get_or ns (j * method_slots) 0 ∷ get_or ns (j * method_slots + 1) 0 ∷ get_or ns (j * method_slots + 2) 0 ∷ get_or ns (j * method_slots + 3) 0 ∷ []) (get_or ns (j * method_slots + argument_slots) 0))
       × (MethodExact (raw_method m) × (MethodCoded (raw_method p) → MethodCoded (raw_method m))) → Filling ms (set all j m) (j + 1)
@@ -171,19 +154,19 @@ module _ (w : Work) (ns : List ℕ) where
     low = omega arith;
     long = length-set all j m ∙ so.long;
     made = set_next Well all j m absent (omega arith) so.made
-        (filled-here (kind_in w) (left_in w) (right_in w) ns j p q m ep eq em.0, (em.1.0, λ c. em.1.1 (subst MethodCoded (sym ep) c)));
+        (filled-here (kind_in w) w.left w.right ns j p q m ep eq em.0, (em.1.0, λ c. em.1.1 (subst MethodCoded (sym ep) c)));
     rest = λ i g k. ap raw_method (get_or-set_other all j i m absent (λ e. let z : i ≡ j = e in omega arith)) ∙ so.rest i (omega arith) k;
   }
 
   -- the type that they make
-  pub filling-ends : {ms : ℕ} {all : List Method} {j : ℕ} → Filling ms all j → ms ≤ j → w.key.kind < 3 → (z : TypeRec) → raw_of z ≡ new_record w (raw_of z).methods
+  pub filling-ends : {ms : ℕ} {all : List Method} {j : ℕ} → Filling ms all j → ms ≤ j → (z : TypeRec) → raw_of z ≡ new_record w (raw_of z).methods
       → z.methods ≡ all
       → Finished w ms ns z
-  filling-ends {ms} {all} {j} so done k z e em = record {
+  filling-ends {ms} {all} {j} so done z e em = record {
     head = e;
     filled = λ i h. ap method_of (at i) ∙ (so.made i (omega arith)).0;
     exact = λ sh i h. subst (TypeExact ms sh i) (sym e)
-        (ref-exact ms sh i (new_record w (raw_of z).methods) (length-map z.methods raw_method ∙ ap length em ∙ so.long) (derived-key sh i (new_record w (raw_of z).methods) h k) refl
+        (ref-exact ms sh i (new_record w (raw_of z).methods) (length-map z.methods raw_method ∙ ap length em ∙ so.long) (derived-key sh i (new_record w (raw_of z).methods) h (code-low (kind_in w))) refl
         (omega arith)
         (λ n l. subst MethodExact (sym (at n)) (so.made n (omega arith)).1.0) (λ n l r. at n ∙ so.rest n (let g = so.low in omega arith) r));
     coded = λ i h c. subst MethodCoded (sym (at i)) ((so.made i (omega arith)).1.1 c);

@@ -4,10 +4,10 @@ use Rattle.std.proofs.Math.Bool.{So}
 use Rattle.std.proofs.Math.Option.{none}
 use Rattle.spec_model.specs.Table.{Kind, sub, sup, closed, Method, permit}
 use Rattle.spec_model.specs.Restriction.{restricted}
-use Rattle.spec_model.specs.Check.{RawMethod, RawType, no_raw_method, kind_of, answer_of, method_of, raw_method_fits}
-use Rattle.spec_model.specs.Records.{argument_slots}
+use Rattle.spec_model.specs.Check.{RawMethod, RawType, no_raw_method, answer_of, method_of, raw_method_fits}
+use Rattle.spec_model.specs.Records.{argument_slots, kind_code}
 use Rattle.table_record.specs.declared.TypeRec.{TypeRec}
-use Rattle.table_record.specs.Store.{raw_method, raw_of, empty_type, TypeExact}
+use Rattle.table_record.specs.Store.{kind_is, raw_method, raw_of, empty_type, TypeExact}
 use Rattle.derive_slots.specs.Slots.{method_slots}
 use Rattle.derive_type.specs.declared.Work.{Work}
 
@@ -52,16 +52,9 @@ abbrev pub signed_method : ℕ → ℕ → List ℕ → ℕ → RawMethod
 signed_method state count args answer =
     record { state = state; count = count; args = slot_byte count args 0 ∷ slot_byte count args 1 ∷ slot_byte count args 2 ∷ slot_byte count args 3 ∷ []; answer = answer }
 
--- The two sides of the type at work.
-abbrev pub left_in : Work → TypeRec
-left_in w = record { head = w.lefthead; methods = w.left }
-
-abbrev pub right_in : Work → TypeRec
-right_in w = record { head = w.righthead; methods = w.right }
-
 -- The kind of the type at work, and the category of the side that it keeps.
 abbrev pub kind_in : Work → Kind
-kind_in w = kind_of w.key.kind
+kind_in w = kind_is w.key.kind
 
 abbrev pub main_of : Kind → TypeRec → TypeRec → TypeRec
 main_of sub x y = x
@@ -69,11 +62,11 @@ main_of sup x y = y
 main_of closed x y = x
 
 abbrev pub cat_in : Work → ℕ
-cat_in w = (main_of (kind_in w) (left_in w) (right_in w)).head.cat
+cat_in w = (main_of (kind_in w) w.left w.right).head.cat
 
 -- A derived type as it is stored, and one at work, with every method denied.
 abbrev pub new_record : Work → List RawMethod → RawType
-new_record w ms = record { rep = 0; cat = cat_in w; own = 0; kind = w.key.kind; left = w.key.left; right = w.key.right; methods = ms }
+new_record w ms = record { rep = 0; cat = cat_in w; own = 0; kind = kind_code (kind_in w); left = w.key.left; right = w.key.right; methods = ms }
 
 abbrev pub pending_record : Work → RawType
 pending_record w = new_record w (map raw_method empty_type.methods)
@@ -81,6 +74,6 @@ pending_record w = new_record w (map raw_method empty_type.methods)
 -- The finished type, from the bytes of its slots: it is stored exactly.
 pub record Finished (w : Work) (ms : ℕ) (ns : List ℕ) (z : TypeRec) : Type 0 where
   pub head : raw_of z ≡ new_record w (raw_of z).methods
-  pub filled : (j : ℕ) → j < ms → method_in z j ≡ fill_at (kind_in w) (method_in (left_in w)) (method_in (right_in w)) ns j
+  pub filled : (j : ℕ) → j < ms → method_in z j ≡ fill_at (kind_in w) (method_in w.left) (method_in w.right) ns j
   pub exact : (sheet i : ℕ) → sheet ≤ i → TypeExact ms sheet i (raw_of z)
-  pub coded : (j : ℕ) → j < ms → MethodCoded (raw_in (left_in w) j) → MethodCoded (raw_in z j)
+  pub coded : (j : ℕ) → j < ms → MethodCoded (raw_in w.left j) → MethodCoded (raw_in z j)

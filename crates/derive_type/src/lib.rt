@@ -2,45 +2,28 @@
 // and finished. What is derived for a slot, and the state of a method, are said in crate `derive_slots`.
 #![tactic(auto)]
 
-ghost use Rattle.std.specs.Prelude.{◌≡◌, cond, ◌≤◌, ◌<◌, min, ltb};
-ghost use Rattle.spec_model.specs.Check.{kind_of, method_of};
+ghost use Rattle.std.specs.Prelude.{◌≡◌, cond, ◌≤◌, ◌<◌, min, ltb, length};
+ghost use Rattle.spec_model.specs.Check.{method_of};
 ghost use Rattle.spec_model.specs.Table.{max_methods};
 ghost use Rattle.spec_model.specs.Records.{argument_slots};
-ghost use Rattle.table_record.specs.Store.{raw_method, raw_of, MethodExact};
+ghost use Rattle.table_record.specs.Store.{kind_is, raw_method, raw_of, MethodExact};
 ghost use Rattle.derive_type.specs.NewType.{fill, MethodCoded, bare_method, signed_method, cat_in, new_record, pending_record, Finished};
 
-use base_numbers::{least, narrow, wide};
 use derive_slots::{METHOD_SLOTS, SLOT_BYTES, state_of};
-use table_record::{Counts, Head, Key, Method, TypeRec, permits};
-
-// A new type at work: its key, and both sides as they were read. (Head and methods apart: a method of a struct within a struct is read by a copy of the whole.)
-#[derive(Clone, Copy)]
-pub struct Work {
-    pub key: Key,
-    pub lefthead: Head,
-    pub left: [Method; Counts::METHODS],
-    pub righthead: Head,
-    pub right: [Method; Counts::METHODS],
-}
+use table_record::{Counts, Head, Key, Kind, Method, TypeRec, permits};
 
 // How many arguments both signatures have (D20), at most the four that a record has room for.
 fn shared_count(x: u8, y: u8) -> usize
     ensures { result ≡ min (min x y) argument_slots }
 {
-    let c = wide(x);
-    let e = wide(y);
-    let both = least(c, e);
-    least(both, Method::SLOTS)
+    usize::from(x.min(y)).min(Method::SLOTS)
 }
 
 // The byte of argument i of so many: 0 past the last (B17).
 fn argument_byte(x: u8, i: usize, count: usize) -> u8
     ensures { result ≡ cond (ltb i count) x 0 }
 {
-    if i < count {
-        return x;
-    }
-    0
+    if i < count { x } else { 0 }
 }
 
 // A method that isn't permitted has no signature, and no byte of one (B16).
@@ -66,83 +49,86 @@ fn signed(state: u8, count: usize, args: [u8; Method::SLOTS], answer: u8) -> Met
     let d = argument_byte(args[3], 3, count);
     Method {
         state,
-        count: narrow(count),
+        count: count as u8,
         args: [a, b, c, d],
         answer,
     }
 }
 
 // A method of the derived type, from the bytes of its slots: the record that stands for what it means (B13).
-fn filled(kind: u8, p: Method, q: Method, args: [u8; Method::SLOTS], answer: u8) -> Method
-    requires { kind < 3 }
-    ensures is { method_of (raw_method result) ≡ fill (kind_of kind) (method_of (raw_method p)) (method_of (raw_method q)) args answer }
+fn filled(kind: Kind, p: Method, q: Method, args: [u8; Method::SLOTS], answer: u8) -> Method
+    ensures is { method_of (raw_method result) ≡ fill (kind_is kind) (method_of (raw_method p)) (method_of (raw_method q)) args answer }
     ensures exact { MethodExact (raw_method result) }
     ensures coded { MethodCoded (raw_method p) → MethodCoded (raw_method result) }
 {
     let state = state_of(kind, p.state, q.state);
-    let stays = permits(state);
-    if !stays {
-        return unsigned(state);
+    if permits(state) {
+        signed(state, shared_count(p.count, q.count), args, answer)
+    } else {
+        unsigned(state)
     }
-    let count = shared_count(p.count, q.count);
-    signed(state, count, args, answer)
 }
 
-// The category of the side that the derived type keeps: the right one for Sup (D1, D3, D7).
-fn category(w: Work) -> u8
-    ensures { result ≡ cat_in w }
-{
-    if w.key.kind == Key::SUP {
-        return w.righthead.cat;
+// A new type at work: its key, and both sides as they were read.
+#[derive(Clone, Copy)]
+pub struct Work {
+    pub key: Key,
+    pub left: TypeRec,
+    pub right: TypeRec,
+}
+
+impl Work {
+    // The category of the side that the derived type keeps: the right one for Sup (D1, D3, D7).
+    fn category(&self) -> u8
+        ensures { result ≡ cat_in self.now }
+    {
+        match self.key.kind {
+            Kind::Sup => self.right.head.cat,
+            Kind::Sub | Kind::Closed => self.left.head.cat,
+        }
     }
-    w.lefthead.cat
-}
 
-// A derived type is a reference type with own=no, known by its key (D11).
-fn new_type(w: Work, methods: [Method; Counts::METHODS]) -> TypeRec
-    requires { (w.key.left < 256) × (w.key.right < 256) }
-    ensures { (raw_of result ≡ new_record w (raw_of result).methods) × (result.methods ≡ methods) }
-{
-    let cat = category(w);
-    let left = narrow(w.key.left);
-    let right = narrow(w.key.right);
-    let head = Head {
-        rep: Head::REF,
-        cat,
-        own: 0,
-        kind: w.key.kind,
-        left,
-        right,
-    };
-    TypeRec { head, methods }
-}
-
-// The type as it stands until its signatures are derived: every method is denied (D16).
-pub fn pending(w: Work) -> TypeRec
-    requires { (w.key.left < 256) × (w.key.right < 256) }
-    ensures { raw_of result ≡ pending_record w }
-{
-    let empty = TypeRec::empty();
-    let methods = empty.methods;
-    new_type(w, methods)
-}
-
-// The derived type, from the bytes of its slots.
-pub fn finished(w: Work, methods: usize, slots: [u8; SLOT_BYTES]) -> TypeRec
-    requires { (w.key.kind < 3) × (w.key.left < 256) × (w.key.right < 256) × (methods ≤ max_methods) }
-    ensures { Finished w methods slots result }
-{
-    let empty = Method::empty();
-    let mut all = [empty; Counts::METHODS];
-    let mut j: usize = 0;
-    while j < methods {
-        let p = w.left[j];
-        let q = w.right[j];
-        let k = j * METHOD_SLOTS;
-        let args = [slots[k], slots[k + 1], slots[k + 2], slots[k + 3]];
-        let m = filled(w.key.kind, p, q, args, slots[k + Method::SLOTS]);
-        all[j] = m;
-        j += 1;
+    // A derived type is a reference type with own=no, known by its key (D11).
+    fn new_type(&self, methods: [Method; Counts::METHODS]) -> TypeRec
+        requires { (self.now.key.left < 256) × (self.now.key.right < 256) }
+        ensures { (raw_of result ≡ new_record self.now (raw_of result).methods) × (result.methods ≡ methods) }
+    {
+        let head = Head {
+            rep: Head::REF,
+            cat: self.category(),
+            own: 0,
+            kind: self.key.kind.code(),
+            left: self.key.left as u8,
+            right: self.key.right as u8,
+        };
+        TypeRec { head, methods }
     }
-    new_type(w, all)
+
+    // The type as it stands until its signatures are derived: every method is denied (D16).
+    pub fn pending(&self) -> TypeRec
+        requires { (self.now.key.left < 256) × (self.now.key.right < 256) }
+        ensures { raw_of result ≡ pending_record self.now }
+    {
+        self.new_type([Method::empty(); Counts::METHODS])
+    }
+
+    // The derived type, from the bytes of its slots.
+    pub fn finished(&self, methods: usize, slots: &[u8; SLOT_BYTES]) -> TypeRec
+        requires { (self.now.key.left < 256) × (self.now.key.right < 256) × (methods ≤ max_methods) }
+        ensures { Finished self.now methods slots.now result }
+    {
+        let mut all = [Method::empty(); Counts::METHODS];
+        for j in 0..methods {
+            let k = j * METHOD_SLOTS;
+            let args = [slots[k], slots[k + 1], slots[k + 2], slots[k + 3]];
+            all[j] = filled(
+                self.key.kind,
+                self.left.methods[j],
+                self.right.methods[j],
+                args,
+                slots[k + Method::SLOTS],
+            );
+        }
+        self.new_type(all)
+    }
 }

@@ -23,12 +23,7 @@ abbrev pub option_of : {A : Type 0} → Option A → Optionᵐ A
 option_of None = none
 option_of (Some x) = some x
 
--- The code of a kind, and the model's kind.
-abbrev pub kind_code : Kind → ℕ
-kind_code Sub = 0
-kind_code Sup = 1
-kind_code Closed = 2
-
+-- The model's kind.
 abbrev pub kind_is : Kind → Kindᵐ
 kind_is Sub = sub
 kind_is Sup = sup

@@ -5,10 +5,10 @@
 
 ghost use Rattle.std.specs.Prelude.{◌≡◌, suc, ◌+◌, ◌*◌, ◌≤◌, ◌<◌, length, get_or};
 ghost use Rattle.spec_model.specs.Table.{permit, max_methods, max_categories, max_types};
-ghost use Rattle.spec_model.specs.Records.{argument_slots};
+ghost use Rattle.spec_model.specs.Records.{argument_slots, kind_code};
 ghost use Rattle.spec_model.specs.Check.{no_raw_type, no_raw_links, state_of, kind_of};
 ghost use Rattle.table_record.specs.Store.{types_in, links_in, raw_method, raw_of, raw_in, head_of, raw_links, type_size, head_size, method_size};
-ghost use Rattle.table_record.specs.Store.{kind_code, kind_is, ref_as, ref_in, may_stand_as, with_count, empty_counts, empty_method, empty_type, empty_types, empty_links};
+ghost use Rattle.table_record.specs.Store.{kind_is, ref_as, ref_in, may_stand_as, with_count, empty_counts, empty_method, empty_type, empty_types, empty_links};
 
 // The bytes of the types of a table, and of its broader links: those of category 0, which names none, are there too.
 pub const TYPE_BYTES: usize = Counts::TYPES * TypeRec::BYTES;
@@ -173,7 +173,7 @@ pub enum Kind {
 
 impl Kind {
     pub fn code(self) -> u8
-        ensures { (result ≡ kind_code self) × (kind_of result ≡ kind_is self) × (result < 3) }
+        ensures { (result ≡ kind_code (kind_is self)) × (kind_of result ≡ kind_is self) × (result < 3) }
     {
         self as u8
     }

@@ -1,47 +1,23 @@
--- What needs no new type: itself (D12), the main side of numbers (D13), or one with the key that is known (D14); every return is the definition's next case.
-use mathlib.Core.Bool.{not}
-use mathlib.Core.Path.{ap}
+-- Rests on `begins-self`, `begins-number` and `begins-search`: what needs no search, and what is found.
 use mathlib.Core.Path.{sym, ◌∙◌}
-use borrow.Author.Tests.{not-true, not-false}
-use Rattle.table_record.specs.Store.{ref_in}
-use Rattle.derive_record.proofs.Begins.{begins-self, begins-number, begins-search, not_left, not_right}
-use native.Mathlib.Omega.{arith}
+use Rattle.table_record.specs.Store.{kind_is}
+use Rattle.derive_record.proofs.Begins.{not-closed, begins-self, begins-number, begins-search, not_left, not_right}
 use Rattle.derive_record.proofs.begin.Goals as goal
+use Rattle.derive_record.proofs.begin.Goals.{then-not-names_ref-via-then-not-names_ref, then-not-names_ref-via-else-not-names_ref+then-not-names_ref-2}
 
-pub returns-then-t-s : goal.returns-then-t-s
-returns-then-t-s c = let a = c.args in begins-self a.kind a.t a.s c.requires.0 a.c a.n a.b.now c.if-t-s.true
+pub returns-then-key : goal.returns-then-key
+returns-then-key c = let a = c.args in let k = a.key in
+    begins-self (kind_is k.kind) k.left k.right (not-closed k.kind c.requires.0) a.c a.n a.b.now c.if-key.true
 
-pub names_ref-left-requires : goal.names_ref-left-requires
-names_ref-left-requires c = c.requires.1.types
-
-pub returns-then-not-left : goal.returns-then-not-left
-returns-then-not-left c = let a = c.args in
-    begins-number a.kind a.t a.s c.requires.0 a.c a.n a.b.now c.main_side-main.result
-    c.main_side-main.ensures c.if-t-s.false
-    (not_left (ref_in a.n a.b.now a.t) (ref_in a.n a.b.now a.s) (sym c.names_ref-left.ensures ∙ not-true c.names_ref-left.result (ap not c.if-not-left.true)))
-
-pub names_ref-right-requires : goal.names_ref-right-requires
-names_ref-right-requires c = c.requires.1.types
-
-pub returns-then-not-right : goal.returns-then-not-right
-returns-then-not-right c = let a = c.args in
-    begins-number a.kind a.t a.s c.requires.0 a.c a.n a.b.now c.main_side-main.result
-    c.main_side-main.ensures c.if-t-s.false
-    (not_right (ref_in a.n a.b.now a.t) (ref_in a.n a.b.now a.s) (sym c.names_ref-right.ensures ∙ not-true c.names_ref-right.result (ap not c.if-not-right.true)))
-
-pub search-requires : goal.search-requires
-search-requires c = (
-  omega (arith, c.requires.0),
-  c.requires.1,
-  sym
-      c.names_ref-left.ensures ∙ not-false c.names_ref-left.result (ap not c.if-not-left.false),
-  sym c.names_ref-right.ensures ∙ not-false
-      c.names_ref-right.result (ap not c.if-not-right.false),
-)
+pub returns-then-not-names_ref : goal.returns-then-not-names_ref
+returns-then-not-names_ref c = let a = c.args in let k = a.key in
+    begins-number (kind_is k.kind) k.left k.right (not-closed k.kind c.requires.0) a.c a.n a.b.now c.main_side.result c.main_side.ensures c.if-key.false
+    (elim c.then-not-names_ref.branch [
+      | then-not-names_ref-via-then-not-names_ref w ↦ not_left _ _ (sym c.names_ref.ensures ∙ w.if-not-names_ref.true)
+      | then-not-names_ref-via-else-not-names_ref+then-not-names_ref-2 w ↦ not_right _ _ (sym w.names_ref-else-not-names_ref.ensures ∙ w.if-not-names_ref-2.true)
+    ])
 
 pub returns : goal.returns
-returns c = let a = c.args in
-    begins-search a.kind a.t a.s c.requires.0 a.c a.n a.b.now c.search.result
-    c.if-t-s.false
-    (sym c.names_ref-left.ensures ∙ not-false c.names_ref-left.result (ap not c.if-not-left.false))
-    (sym c.names_ref-right.ensures ∙ not-false c.names_ref-right.result (ap not c.if-not-right.false)) c.search.ensures
+returns c = let a = c.args in let k = a.key in
+    begins-search (kind_is k.kind) k.left k.right (not-closed k.kind c.requires.0) a.c a.n a.b.now c.search.result c.if-key.false
+    (sym c.names_ref.ensures ∙ c.if-not-names_ref.false) (sym c.names_ref-else-not-names_ref.ensures ∙ c.if-not-names_ref-2.false) c.search.ensures
