@@ -10,7 +10,7 @@ ghost use Rattle.table_record.specs.Store.{types_in};
 ghost use Rattle.state_record.specs.View.{cell_of, place_of, call_of};
 ghost use Rattle.state_check_records.specs.Parts.{settled_as, class_as, cell_accepted, object_accepted, adapter_accepted, place_accepted, call_accepted, sizes_accepted};
 
-use state_record::{Call, Cell, PlaceRec, State};
+use state_record::{Call, Cell, Place, PlaceRec, State};
 use table_record::{Counts, Method, TYPE_BYTES};
 
 // Whether every method of type i is avail or unavail.
@@ -18,13 +18,10 @@ fn settled(b: &[u8; TYPE_BYTES], methods: usize, i: usize) -> bool
     requires { (methods ≤ max_methods) × (i < max_types) }
     ensures { result ≡ settled_as methods (get_or (types_in b.now) i no_raw_type) }
 {
-    let mut j: usize = 0;
-    while j < methods {
-        let m = table_record::get_method(b, i, j);
-        if m.state < Method::AVAIL {
+    for j in 0..methods {
+        if table_record::get_method(b, i, j).state < Method::AVAIL {
             return false;
         }
-        j += 1;
     }
     true
 }
@@ -34,13 +31,7 @@ pub fn is_class(b: &[u8; TYPE_BYTES], methods: usize, i: usize) -> bool
     requires { (methods ≤ max_methods) × (i < max_types) }
     ensures { result ≡ class_as methods (get_or (types_in b.now) i no_raw_type) }
 {
-    if !table_record::is_ref(b, i) {
-        return false;
-    }
-    if !table_record::may_stand(b, i) {
-        return false;
-    }
-    settled(b, methods, i)
+    table_record::is_ref(b, i) && table_record::may_stand(b, i) && settled(b, methods, i)
 }
 
 // A cell (H9), in a state of so many places.
@@ -48,17 +39,11 @@ pub fn cell_fits(b: &[u8; TYPE_BYTES], c: Counts, places: usize, x: Cell) -> boo
     requires { Limits c }
     ensures { result ≡ cell_accepted (types_in b.now) c places (cell_of x) }
 {
-    if c.subjects <= base_numbers::wide(x.holder) {
-        return false;
-    }
-    if places <= base_numbers::wide(x.place) {
-        return false;
-    }
-    let i = base_numbers::wide(x.ty);
-    if c.sheet <= i {
-        return false;
-    }
-    table_record::is_ref(b, i)
+    let i = usize::from(x.ty);
+    usize::from(x.holder) < c.subjects
+        && usize::from(x.place) < places
+        && i < c.sheet
+        && table_record::is_ref(b, i)
 }
 
 // An object (H10).
@@ -66,13 +51,7 @@ fn object_fits(b: &[u8; TYPE_BYTES], c: Counts, class: usize, owner: usize) -> b
     requires { Limits c }
     ensures { result ≡ object_accepted (types_in b.now) c class owner }
 {
-    if c.subjects <= owner {
-        return false;
-    }
-    if c.sheet <= class {
-        return false;
-    }
-    is_class(b, c.methods, class)
+    owner < c.subjects && class < c.sheet && is_class(b, c.methods, class)
 }
 
 // An adapter at place p (H10).
@@ -80,48 +59,35 @@ fn adapter_fits(b: &[u8; TYPE_BYTES], c: Counts, p: usize, behind: usize, closed
     requires { Limits c }
     ensures { result ≡ adapter_accepted (types_in b.now) c p behind closed }
 {
-    if p <= behind {
-        return false;
-    }
-    if c.types <= closed {
-        return false;
-    }
-    table_record::is_ref(b, closed)
+    behind < p && closed < c.types && table_record::is_ref(b, closed)
 }
 
 pub fn place_fits(b: &[u8; TYPE_BYTES], c: Counts, p: usize, x: PlaceRec) -> bool
     requires { Limits c }
     ensures { result ≡ place_accepted (types_in b.now) c p (place_of x.place) }
 {
-    let t = state_places::place_type(x);
-    if state_places::is_object(x) {
-        return object_fits(b, c, t, state_places::place_owner(x));
+    match x.place {
+        Place::Object { class, owner } => {
+            object_fits(b, c, usize::from(class), usize::from(owner))
+        }
+        Place::Adapter { behind, closed } => {
+            adapter_fits(b, c, p, usize::from(behind), usize::from(closed))
+        }
     }
-    adapter_fits(b, c, p, state_places::place_behind(x), t)
 }
 
 // A call (H11), in a state of so many cells.
 pub fn call_fits(c: Counts, cells: usize, x: Call) -> bool
     ensures { result ≡ call_accepted c cells (call_of x) }
 {
-    if c.subjects <= base_numbers::wide(x.caller) {
-        return false;
-    }
-    if cells <= base_numbers::wide(x.cell) {
-        return false;
-    }
-    base_numbers::wide(x.method) < c.methods
+    usize::from(x.caller) < c.subjects
+        && usize::from(x.cell) < cells
+        && usize::from(x.method) < c.methods
 }
 
 // The counts of cells, places and calls (H1).
 pub fn sizes_fit(cells: usize, places: usize, calls: usize) -> bool
     ensures { result ≡ sizes_accepted cells places calls }
 {
-    if State::CELLS < cells {
-        return false;
-    }
-    if State::PLACES < places {
-        return false;
-    }
-    calls <= State::CALLS
+    cells <= State::CELLS && places <= State::PLACES && calls <= State::CALLS
 }

@@ -11,22 +11,20 @@ use Rattle.state_check_records.proofs.settled.Goals as goal
 
 pub loop-j-init : goal.loop-j-init
 unfolding settled_as
-loop-j-init c = let a = c.args in let e : a.methods ≡ a.methods - 0 = omega arith in (omega arith, ap (λ (z : ℕ). each_from z 0 (SettledAt a.b.now a.i)) e)
+loop-j-init c = let a = c.args in let e : a.methods ≡ a.methods - 0 = omega arith in ap (λ (z : ℕ). each_from z 0 (SettledAt a.b.now a.i)) e
 
-pub get_method-m-requires : goal.get_method-m-requires
-get_method-m-requires c = (c.requires.1, omega (arith, c.loop-j-test.true, c.requires.0))
+pub get_method-requires : goal.get_method-requires
+get_method-requires c = (c.requires.1, omega (arith, c.loop-j-test.true, c.requires.0))
 
-pub returns-then-m-lt-AVAIL : goal.returns-then-m-lt-AVAIL
-returns-then-m-lt-AVAIL c = let a = c.args in let l = c.loop-j in
-    sym (l.invariant.1 ∙ rest-broken (SettledAt a.b.now a.i) a.methods l.j c.loop-j-test.true
-    (ap (λ (m : RawMethod). is_settled (state_of m.state)) (sym c.get_method-m.ensures) ∙ unsettled c.get_method-m.result.state c.if-m-lt-AVAIL.true))
+pub returns-then-get_method-lt-AVAIL : goal.returns-then-get_method-lt-AVAIL
+returns-then-get_method-lt-AVAIL c = let a = c.args in let l = c.loop-j in
+    sym (l.invariant ∙ rest-broken (SettledAt a.b.now a.i) a.methods l.j c.loop-j-test.true
+    (ap (λ (m : RawMethod). is_settled (state_of m.state)) (sym c.get_method.ensures) ∙ unsettled c.get_method.result.state c.if-get_method-lt-AVAIL.true))
 
 pub loop-j-preserved : goal.loop-j-preserved
-loop-j-preserved c = let a = c.args in let l = c.loop-j in (
-  omega arith,
-  l.invariant.1 ∙ rest-next (SettledAt a.b.now a.i) a.methods l.j c.loop-j-test.true
-      (ap (λ (m : RawMethod). is_settled (state_of m.state)) (sym c.get_method-m.ensures) ∙ settles c.get_method-m.result.state c.if-m-lt-AVAIL.false),
-)
+loop-j-preserved c = let a = c.args in let l = c.loop-j in
+    l.invariant ∙ rest-next (SettledAt a.b.now a.i) a.methods l.j c.loop-j-test.true
+    (ap (λ (m : RawMethod). is_settled (state_of m.state)) (sym c.get_method.ensures) ∙ settles c.get_method.result.state c.if-get_method-lt-AVAIL.false)
 
 pub returns : goal.returns
-returns c = let a = c.args in let l = c.loop-j in sym (l.invariant.1 ∙ rest_end (SettledAt a.b.now a.i) a.methods l.j c.loop-j-test.false)
+returns c = let a = c.args in let l = c.loop-j in sym (l.invariant ∙ rest_end (SettledAt a.b.now a.i) a.methods l.j c.loop-j-test.false)

@@ -1,6 +1,6 @@
 -- The invariant: the whole test is what is left of it (`rest-next`, `rest-broken`, `rest_end`).
 use mathlib.Core.Path.{◌≡◌}
-use Prim.Native.Nat.{◌-◌, ◌≤◌}
+use Prim.Native.Nat.{◌-◌}
 use lib.ListN.{get_or}
 use Rattle.spec_model.specs.Check.{no_raw_type}
 use Rattle.table_record.specs.Store.{types_in}
@@ -10,7 +10,4 @@ use Rattle.state_check_records.proofs.Steps.{SettledAt}
 use Rattle.state_check_records.proofs.settled.Given as goal
 
 abbrev pub invariant-loop-j : goal.invariant-loop-j
-invariant-loop-j l = (l.j ≤ l.methods) × (settled_as l.methods (get_or (types_in l.b) l.i no_raw_type) ≡ each_from (l.methods - l.j) l.j (SettledAt l.b l.i))
-
-abbrev pub decreases-loop-j : goal.decreases-loop-j
-decreases-loop-j l = l.methods - l.j
+invariant-loop-j l = settled_as l.methods (get_or (types_in l.b) l.i no_raw_type) ≡ each_from (l.methods - l.j) l.j (SettledAt l.b l.i)
