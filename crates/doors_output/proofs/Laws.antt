@@ -1,5 +1,5 @@
 -- From the lines that are read to the result, and from the result to the line that is printed. The proofs of the functions cite them.
-use mathlib.Core.Path.{◌≡◌, refl, sym, ap, ◌∙◌, subst}
+use mathlib.Core.Path.{◌≡◌, refl, sym, ap, ◌∙◌}
 use mathlib.Core.Bool.{Bool, true, false, ◌&&◌}
 use mathlib.Core.List.{List, [], ◌∷◌}
 use Prim.Native.Nat.{ℕ, ◌≤◌, ◌<◌}
@@ -16,9 +16,9 @@ use Rattle.spec_doors.specs.Held.{Counts, pairs_of, counts, held}
 use Rattle.spec_doors.specs.Input.{Input, input_lines}
 use Rattle.spec_doors.specs.Output.{held_text, held_in, doors_output}
 use Rattle.doors_hold.proofs.Laws.{too-many}
-use Rattle.doors_read.specs.View.{Whole, InputRead}
+use Rattle.doors_read.specs.View.{InputRead}
 use Rattle.doors_read.specs.declared.Read.{Read}
-use Rattle.doors_read.specs.declared.Read.TheVariants.{Wrong, Right}
+use Rattle.std.specs.Prelude.{Some, None}
 
 -- ---- The result
 unfit : (ms xs : List ℕ) (w : ℕ) → (times_fit ms && times_fit xs) ≡ false → refuse unfit_times ≡ held ms xs w
@@ -33,30 +33,27 @@ and-false : (b : Bool) → (b && false) ≡ false
 and-false true = refl
 and-false false = refl
 
-module _ (R : Reading Input) (marks arrivals : List ℕ) (x : Read) (h : InputRead R marks arrivals x) where
-  pub wrong-form : x ≡ Wrong → refuse form ≡ held_in R
-  wrong-form q = let f : InputRead R marks arrivals Wrong = subst (InputRead R marks arrivals) q h in sym (ap held_in f.1)
+module _ (R : Reading Input) (marks arrivals : List ℕ) where
+  pub wrong-form : InputRead R marks arrivals None → refuse form ≡ held_in R
+  wrong-form h = sym (ap held_in h.1)
 
-  module _ (w m n : ℕ) (q : x ≡ Right w m n) where
-    whole : Whole R marks arrivals w m n
-    whole = subst (InputRead R marks arrivals) q h
-
-    pub many-marks : max_times < m → refuse unfit_times ≡ held_in R
+  module _ (x : Read) (whole : InputRead R marks arrivals (Some x)) where
+    pub many-marks : max_times < x.marks → refuse unfit_times ≡ held_in R
     many-marks k =
         let i = whole.input in
         let e : false ≡ times_fit i.marks = too-many i.marks (omega (arith, whole.marks.count)) in
         unfit i.marks i.arrivals i.within (ap (λ b. b && times_fit i.arrivals) (sym e)) ∙ sym (ap held_in whole.is)
 
-    pub many-arrivals : max_times < n → refuse unfit_times ≡ held_in R
+    pub many-arrivals : max_times < x.arrivals → refuse unfit_times ≡ held_in R
     many-arrivals k =
         let i = whole.input in
         let e : false ≡ times_fit i.arrivals = too-many i.arrivals (omega (arith, whole.arrivals.count)) in
         unfit i.marks i.arrivals i.within (ap (λ b. times_fit i.marks && b) (sym e) ∙ and-false (times_fit i.marks)) ∙ sym (ap held_in whole.is)
 
-    pub lists-held : m ≤ max_times → n ≤ max_times → held (take m marks) (take n arrivals) w ≡ held_in R
+    pub lists-held : x.marks ≤ max_times → x.arrivals ≤ max_times → held (take x.marks marks) (take x.arrivals arrivals) x.within ≡ held_in R
     lists-held k l =
         let i = whole.input in
-        ap (held (take m marks) (take n arrivals)) (sym whole.within) ∙ ap (λ ms. held ms (take n arrivals) i.within) (whole.marks.there k)
+        ap (held (take x.marks marks) (take x.arrivals arrivals)) (sym whole.within) ∙ ap (λ ms. held ms (take x.arrivals arrivals) i.within) (whole.marks.there k)
         ∙ ap (λ xs. held i.marks xs i.within) (whole.arrivals.there l) ∙ sym (ap held_in whole.is)
 
 -- ---- What is printed

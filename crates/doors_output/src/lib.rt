@@ -1,19 +1,16 @@
 // The program `doors`: three lines in, one line out (P27 to P29). `report` takes any bytes and says what is printed, in the words of crate `spec_doors`.
 #![tactic(auto)]
 
-ghost use Rattle.std.specs.Prelude.{◌≡◌, [], ◌∷◌, ◌++◌, ◌≤◌, length, take};
+ghost use Rattle.std.specs.Prelude.{◌≡◌, [], ◌∷◌, ◌++◌, ◌≤◌, length, take, Ok};
 ghost use Rattle.spec_sheet.specs.Lines.{bytes, split};
 ghost use Rattle.spec_sheet.specs.Text.{number_text};
-ghost use Rattle.spec_doors.specs.Times.{max_times};
 ghost use Rattle.spec_doors.specs.Input.{input_lines};
 ghost use Rattle.spec_doors.specs.Output.{held_text, held_in, doors_output};
 ghost use Rattle.doors_hold.specs.Result.{held_of};
 ghost use Rattle.text_write.specs.Fill.{Filled, Lined};
-ghost use Rattle.doors_output.specs.Room.{printed_size};
 
-use base_numbers::{least, refusal};
-use doors_hold::{Held, TIMES};
-use doors_read::Read;
+use base_numbers::refusal::Refusal;
+use doors_hold::{Counts, TIMES};
 use text_write::{put_number, write_number, write_word};
 
 // The longest input that is read (P1).
@@ -22,75 +19,54 @@ const INPUT_BYTES: usize = 32768;
 // Room for what is printed: a line of at most 109 bytes.
 pub const PRINTED_BYTES: usize = 128;
 
-// What is printed: the first `length` bytes of `text`.
+// What is printed: the first `length` bytes of `text`. Kept: fixed memory, no heap.
 #[derive(Clone, Copy)]
 pub struct Printed {
     pub length: usize,
     pub text: [u8; PRINTED_BYTES],
 }
 
-fn no_times() -> [u64; TIMES]
-    ensures { length result ≡ max_times }
-{
-    [0u64; TIMES]
-}
-
 // What comes of the input's lines. More times than there is room for are more than V1 allows.
-fn hold_lines(s: &[u8]) -> Held
+fn hold_lines(s: &[u8]) -> Result<Counts, Refusal>
     ensures { held_of result ≡ held_in (input_lines 0 (split s.now)) }
 {
-    let mut marks = no_times();
-    let mut arrivals = no_times();
-    let x = doors_read::read_input(s, &mut marks, &mut arrivals);
-    let Read::Right {
-        within,
-        marks: m,
-        arrivals: a,
-    } = x
-    else {
-        return Held::Refused(refusal::FORM);
-    };
-    if TIMES < m {
-        return Held::Refused(refusal::UNFIT_TIMES);
+    let mut marks = [0; TIMES];
+    let mut arrivals = [0; TIMES];
+    let x = doors_read::read_input(s, &mut marks, &mut arrivals).ok_or(Refusal::Form)?;
+    if TIMES < x.marks || TIMES < x.arrivals {
+        return Err(Refusal::UnfitTimes);
     }
-    if TIMES < a {
-        return Held::Refused(refusal::UNFIT_TIMES);
-    }
-    doors_hold::hold(&marks[..m], &arrivals[..a], within as u64)
+    doors_hold::hold(&marks[..x.marks], &arrivals[..x.arrivals], x.within as u64)
 }
 
 // The last two counts of a line.
-fn write_unpaired(buf: &mut [u8], marks: usize, arrivals: usize) -> usize
-    ensures is { Lined buf.old buf.new ((number_text (bytes " ") marks ++ number_text (bytes " ") arrivals) ∷ []) result }
+fn write_unpaired(buf: &mut [u8], c: Counts) -> usize
+    ensures is { Lined buf.old buf.new ((number_text (bytes " ") c.marks ++ number_text (bytes " ") c.arrivals) ∷ []) result }
     ensures few { result ≤ 73 }
 {
-    let a = put_number(buf, b" ", marks);
-    let k = least(a, buf.len());
-    a + write_number(&mut buf[k..], b" ", arrivals)
+    let a = put_number(buf, b" ", c.marks);
+    let k = a.min(buf.len());
+    a + write_number(&mut buf[k..], b" ", c.arrivals)
 }
 
 // `got=` and the three counts (P29)
-fn write_counts(buf: &mut [u8], pairs: usize, marks: usize, arrivals: usize) -> usize
-    ensures is { Lined buf.old buf.new (held_text (held_of (Held.Counted pairs marks arrivals)) ∷ []) result }
+fn write_counts(buf: &mut [u8], c: Counts) -> usize
+    ensures is { Lined buf.old buf.new (held_text (held_of (Ok c)) ∷ []) result }
     ensures few { result ≤ 109 }
 {
-    let a = put_number(buf, b"got=", pairs);
-    let k = least(a, buf.len());
-    a + write_unpaired(&mut buf[k..], marks, arrivals)
+    let a = put_number(buf, b"got=", c.pairs);
+    let k = a.min(buf.len());
+    a + write_unpaired(&mut buf[k..], c)
 }
 
 // The line of a result.
-fn write_held(buf: &mut [u8], h: Held) -> usize
+fn write_held(buf: &mut [u8], h: Result<Counts, Refusal>) -> usize
     ensures is { Lined buf.old buf.new (held_text (held_of h) ∷ []) result }
     ensures few { result ≤ 109 }
 {
     match h {
-        Held::Refused(e) => write_number(buf, b"no=", e),
-        Held::Counted {
-            pairs,
-            marks,
-            arrivals,
-        } => write_counts(buf, pairs, marks, arrivals),
+        Ok(c) => write_counts(buf, c),
+        Err(e) => write_number(buf, b"no=", e.number()),
     }
 }
 
@@ -102,14 +78,7 @@ fn put_report(buf: &mut [u8], s: &[u8]) -> usize
     if INPUT_BYTES < s.len() {
         return write_word(buf, b"no=2");
     }
-    let h = hold_lines(s);
-    write_held(buf, h)
-}
-
-fn blank() -> [u8; PRINTED_BYTES]
-    ensures { length result ≡ printed_size }
-{
-    [0u8; PRINTED_BYTES]
+    write_held(buf, hold_lines(s))
 }
 
 // What the program prints for any input. `within` says what `&text[..length]` asks.
@@ -117,7 +86,7 @@ pub fn report(s: &[u8]) -> Printed
     ensures is { take result.length result.text ≡ doors_output s.now }
     ensures within { (result.length ≤ length result.text) × (result.length ≡ length (take result.length result.text)) }
 {
-    let mut text = blank();
+    let mut text = [0; PRINTED_BYTES];
     let length = put_report(&mut text, s);
     Printed { length, text }
 }

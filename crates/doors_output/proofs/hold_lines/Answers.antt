@@ -1,27 +1,23 @@
--- Lines that are wrong, or that have too many times, are refused as the definition refuses them; else the arrays hold the two lists.
-use mathlib.Core.Path.{sym, ◌∙◌}
-use native.Mathlib.Omega.{arith}
-use lib.Seq.{length-take-le}
-use Rattle.doors_output.proofs.Laws.{wrong-form, many-marks, many-arrivals, lists-held}
+-- Lines that have too many times are refused as the definition refuses them; else the arrays hold the two lists.
+use Rattle.std.proofs.Common.{◌≡◌, Some, rules, subst, ◌∙◌}
+use Rattle.spec_sheet.specs.Lines.{split}
+use Rattle.spec_doors.specs.Input.{input_lines}
+use Rattle.doors_read.specs.View.{InputRead}
+use Rattle.doors_output.proofs.Laws.{many-marks, many-arrivals, lists-held}
 use Rattle.doors_output.proofs.hold_lines.Goals as goal
+use Rattle.doors_output.proofs.hold_lines.Goals.{In_ok-x, then-x-gt-TIMES-via-then-x-gt-TIMES, then-x-gt-TIMES-via-else-x-gt-TIMES+then-x-gt-TIMES-2}
 
-pub returns-in_default : goal.returns-in_default
-returns-in_default c = wrong-form _ _ _ _ c.read_input-x.ensures.is c.in_default.is
+-- what was read
+read : (c : In_ok-x) → InputRead (input_lines 0 (split c.args.s.now)) c.read_input.new.marks c.read_input.new.arrivals (Some c.in_ok-x.x)
+read c = let e : c.read_input.result ≡ Some c.in_ok-x.x = search rules in subst (InputRead _ _ _) e c.read_input.ensures.is
 
-pub returns-then-m-gt-TIMES : goal.returns-then-m-gt-TIMES
-returns-then-m-gt-TIMES c = many-marks _ _ _ _ c.read_input-x.ensures.is _ _ _ c.in-Right.is c.if-m-gt-TIMES.true
-
-pub returns-then-a-gt-TIMES : goal.returns-then-a-gt-TIMES
-returns-then-a-gt-TIMES c = many-arrivals _ _ _ _ c.read_input-x.ensures.is _ _ _ c.in-Right.is c.if-a-gt-TIMES.true
-
-pub slice_bounds-hold-end : goal.slice_bounds-hold-end
-slice_bounds-hold-end c =
-    sym (length-take-le _ c.read_input-x.new.marks (omega (arith, c.if-m-gt-TIMES.false, c.read_input-x.ensures.sizes.0)))
-
-pub slice_bounds-hold-end-2 : goal.slice_bounds-hold-end-2
-slice_bounds-hold-end-2 c =
-    sym (length-take-le _ c.read_input-x.new.arrivals (omega (arith, c.if-a-gt-TIMES.false, c.read_input-x.ensures.sizes.1)))
+pub returns-then-x-gt-TIMES : goal.returns-then-x-gt-TIMES
+returns-then-x-gt-TIMES c =
+    let r = read (goal.at.returns-then-x-gt-TIMES c).In_ok-x in
+    elim c.then-x-gt-TIMES.branch [
+      | then-x-gt-TIMES-via-then-x-gt-TIMES w ↦ many-marks _ _ _ _ r w.if-x-gt-TIMES.true
+      | then-x-gt-TIMES-via-else-x-gt-TIMES+then-x-gt-TIMES-2 w ↦ many-arrivals _ _ _ _ r w.if-x-gt-TIMES-2.true
+    ]
 
 pub returns : goal.returns
-returns c =
-    c.hold.ensures ∙ lists-held _ _ _ _ c.read_input-x.ensures.is _ _ _ c.in-Right.is c.if-m-gt-TIMES.false c.if-a-gt-TIMES.false
+returns c = c.hold.ensures ∙ lists-held _ _ _ _ (read (goal.at.returns c).In_ok-x) c.if-x-gt-TIMES.false c.if-x-gt-TIMES-2.false

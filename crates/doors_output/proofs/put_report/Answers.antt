@@ -10,4 +10,4 @@ returns-then-s-gt-INPUT_BYTES c =
 
 pub returns : goal.returns
 returns c =
-    record { is = fill_is (held-prints c.args.s.now _ c.hold_lines-h.ensures (omega (arith, c.if-s-gt-INPUT_BYTES.false))) c.write_held.ensures.is.filled; few = c.write_held.ensures.few }
+    record { is = fill_is (held-prints c.args.s.now _ c.hold_lines.ensures (omega (arith, c.if-s-gt-INPUT_BYTES.false))) c.write_held.ensures.is.filled; few = c.write_held.ensures.few }
