@@ -22,7 +22,10 @@ use Rattle.spec_sheet.specs.Sheet.{rep_line, own_line, end_line, under_line, bel
 use Rattle.text_read.specs.declared.Numbers.{Numbers}
 use Rattle.text_read.specs.View.{items_of, numbers_of, RestEmpty, max_numbers}
 use Rattle.text_read.proofs.Laws.{from-here, at-end}
-use Rattle.sheet_read_line.specs.View.{LinksExact}
+use Rattle.std.specs.List.{list_all}
+use Rattle.table_record.specs.Store.{raw_links}
+use Rattle.table_record.specs.declared.Links.{Links}
+use Rattle.sheet_read_line.specs.View.{broader_in, LinksExact}
 
 -- every line kind refuses an empty line
 pub rep-empty : rep_line [] ≡ refuse form
@@ -104,24 +107,10 @@ module _ (l : List ℕ) where
     unfolding own-second
     own-none e = ap (λ z. cond z (ok false) (refuse form)) (sym e) ∙ to-own
 
--- Numbers below a bound, one after the other.
-module _ (t : Numbers) (i n : ℕ) (few : t.count ≤ max_numbers) (inv : all (below n) (numbers_of t) ≡ all (below n) (drop i (numbers_of t))) where
-  there : length (numbers_of t) ≡ t.count
-  there = length-take-le t.count (items_of t) few
-
-  here : i < t.count → all (below n) (numbers_of t) ≡ ltb (get_or (items_of t) i 0) n && all (below n) (drop (i + 1) (numbers_of t))
-  here h =
-      inv ∙ ap (all (below n)) (from-here (numbers_of t) i (omega (arith, there)))
-      ∙ ap (λ z. ltb z n && all (below n) (drop (i + 1) (numbers_of t))) (get_or-take t.count (items_of t) i 0 h)
-
-  pub below-not : i < t.count → (x : ℕ) → x ≡ get_or (items_of t) i 0 → n ≤ x → false ≡ all (below n) (numbers_of t)
-  below-not h x e k = sym (here h ∙ ap (λ z. z && all (below n) (drop (i + 1) (numbers_of t))) (ap (λ z. ltb z n) (sym e) ∙ le-ltb x n k))
-
-  pub below_next : i < t.count → (x : ℕ) → x ≡ get_or (items_of t) i 0 → x < n → all (below n) (numbers_of t) ≡ all (below n) (drop (i + 1) (numbers_of t))
-  below_next h x e k = here h ∙ ap (λ z. z && all (below n) (drop (i + 1) (numbers_of t))) (ap (λ z. ltb z n) (sym e) ∙ lt-ltb x n k)
-
-  pub below_all : t.count ≤ i → true ≡ all (below n) (numbers_of t)
-  below_all h = sym (inv ∙ ap (all (below n)) (at-end (numbers_of t) i (omega (arith, there))))
+-- a test of every number, as the library has it
+pub all-list : {A : Type 0} (f : A → Bool) (xs : List A) → list_all f xs ≡ all f xs
+all-list f [] = refl
+all-list f (x ∷ xs) = ap (λ z. f x && z) (all-list f xs)
 
 -- Numbers as bytes: those that are there are below n, the others are 0.
 low-at : (n : ℕ) (xs : List ℕ) (i : ℕ) → all (below n) xs ≡ true → i < length xs → get_or xs i 0 < n
@@ -208,13 +197,13 @@ module _ (c k : ℕ) (l : List ℕ) where
           under-good d = ap (λ z. need z not_below λ _. ok xs) (sym d) ∙ known
 
 -- One or two numbers as links: they are what was read, and the record of what they say, in which a missing second one is 0.
-pub links-are : (t : Numbers) (n a b : ℕ) → n ≡ t.count → a ≡ t.first → b ≡ t.second → 1 ≤ t.count → t.count ≤ 2 → RestEmpty t
-    → (links_of (record { count = n; first = a; second = b }) ≡ numbers_of t) × LinksExact (record { count = n; first = a; second = b })
-links-are t n a b e p q h k z = go t.count e h k (z 1)
+pub links-are : (t : Numbers) → 1 ≤ t.count → t.count ≤ 2 → RestEmpty t
+    → (links_of (record { count = t.count; first = t.first; second = t.second }) ≡ numbers_of t) × LinksExact (record { count = t.count; first = t.first; second = t.second })
+links-are t h k z = go t.count h k (z 1)
   where
-    go : (c : ℕ) → n ≡ c → 1 ≤ c → c ≤ 2 → (c ≤ 1 → t.second ≡ 0) → (links_of (record { count = n; first = a; second = b }) ≡ take c (items_of t))
-        × LinksExact (record { count = n; first = a; second = b })
-    go zero e h k z = absurd (omega arith)
-    go (suc zero) e h k z = let w = q ∙ z (omega arith) in (rw (e, p), rw (e, p, w))
-    go (suc (suc zero)) e h k z = (rw (e, p, q), rw (e, p, q))
-    go (suc (suc (suc c))) e h k z = absurd (omega arith)
+    go : (c : ℕ) → 1 ≤ c → c ≤ 2 → (c ≤ 1 → t.second ≡ 0) → (links_of (record { count = c; first = t.first; second = t.second }) ≡ take c (items_of t))
+        × LinksExact (record { count = c; first = t.first; second = t.second })
+    go zero h k z = absurd (omega arith)
+    go (suc zero) h k z = (refl, rw (z (omega arith)))
+    go (suc (suc zero)) h k z = (refl, refl)
+    go (suc (suc (suc c))) h k z = absurd (omega arith)

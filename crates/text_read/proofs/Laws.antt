@@ -1,5 +1,5 @@
 -- Laws over plain values: what a byte more means for a word, a decimal and a list of numbers, and what a line that is read means. The proofs of the functions cite them.
-use Rattle.std.specs.Prelude.{Option, Some, None, Result, Ok, Err, IfOk}
+use Rattle.std.specs.Prelude.{Option, Some, None, Result, Ok, Err, IfOk, IfSome}
 use mathlib.Core.Path.{◌≡◌, refl, sym, ap, ◌∙◌, subst}
 use mathlib.Core.Bool.{Bool, true, false, ◌&&◌, cond}
 use mathlib.Core.List.{List, [], ◌∷◌, ◌++◌}
@@ -22,7 +22,7 @@ use Rattle.spec_sheet.proofs.Steps.{refuse-ok}
 use Rattle.spec_sheet.proofs.Lines.{starts-sound}
 use Rattle.base_numbers.specs.Refusal.{number_of, res_by}
 use Rattle.base_numbers.specs.declared.refusal.Refusal.{Refusal}
-use Rattle.text_read.specs.View.{scan_by, scan_numbers, ScanWithin, reading_by, placed_by, items_of, numbers_of, RestEmpty, no_numbers, max_numbers}
+use Rattle.text_read.specs.View.{scan_by, scan_numbers, ScanWithin, reading_by, placed_by, items_of, numbers_of, RestEmpty, NumbersWithin, no_numbers, max_numbers}
 use Rattle.text_read.specs.declared.Numbers.{Numbers}
 use Rattle.text_read.specs.declared.Malformed.{Malformed}
 use Rattle.text_cursor.specs.declared.Cursor.{Cursor}
@@ -116,6 +116,9 @@ module _ (l : List ℕ) (t : Option Numbers) (S : Scan (List ℕ)) (is : scan_nu
 
   pub numbers-right : (x : Numbers) → t ≡ Some x → took (numbers_of x) (drop x.next l) ≡ S
   numbers-right x e = ap (scan_numbers l) (sym e) ∙ is
+
+pub numbers-within : (size max : ℕ) (t : Option Numbers) (x : Numbers) → t ≡ Some x → IfSome t (NumbersWithin size max) → NumbersWithin size max x
+numbers-within size max t x e h = subst (λ z. IfSome z (NumbersWithin size max)) e h
 
 -- Several numbers: `count` of them are read, xs, and the rest begins at i.
 module _ (l xs : List ℕ) (max count i : ℕ) (R : Scan (List ℕ)) (inv : numbers (max - count) xs (drop i l) ≡ R) where

@@ -38,6 +38,10 @@ abbrev pub scan_numbers : List ℕ → Option Numbers → Scan (List ℕ)
 scan_numbers l None = fail
 scan_numbers l (Some t) = took (numbers_of t) (drop t.next l)
 
+-- the bytes behind them start within the line, and there are one to max
+abbrev pub NumbersWithin : ℕ → ℕ → Numbers → Type 0
+NumbersWithin size max t = (t.next ≤ size) × (1 ≤ t.count) × (t.count ≤ max) × RestEmpty t
+
 -- A reading of s: a line that is refused, where it begins; or a value, of which f says what it means, and the lines behind the cursor.
 abbrev pub reading_by : {T A : Type 0} → (T → A) → List ℕ → Result (T × Cursor) Malformed → Reading A
 reading_by f s (Err e) = refused (number_of e.refusal) e.at

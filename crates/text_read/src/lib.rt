@@ -7,7 +7,7 @@ ghost use Rattle.base_numbers.specs.Refusal.{res_by};
 ghost use Rattle.spec_sheet.specs.Lines.{split, line, starts, same};
 ghost use Rattle.spec_sheet.specs.Numbers.{took, top, limit, digits, number, numbers};
 ghost use Rattle.spec_sheet.specs.Sheet.{number_line};
-ghost use Rattle.text_read.specs.View.{scan_by, scan_numbers, ScanWithin, reading_by, placed_by, items_of, numbers_of, RestEmpty, no_numbers, max_numbers};
+ghost use Rattle.text_read.specs.View.{scan_by, scan_numbers, ScanWithin, reading_by, placed_by, items_of, numbers_of, NumbersWithin, no_numbers, max_numbers};
 
 use base_numbers::refusal::Refusal;
 use text_cursor::{Cursor, between, next_line};
@@ -133,7 +133,7 @@ fn with_number(t: Numbers, n: usize, next: usize) -> Numbers
 pub fn numbers_at(l: &[u8], at: usize, max: usize) -> Option<Numbers>
     requires { (at ≤ length l.now) × (max ≤ max_numbers) }
     ensures is { scan_numbers l.now result ≡ numbers max [] (drop at l.now) }
-    ensures within { IfSome result (λ t. (t.next ≤ length l.now) × (1 ≤ t.count) × (t.count ≤ max) × RestEmpty t) }
+    ensures within { IfSome result (NumbersWithin (length l.now) max) }
 {
     let mut i = at;
     let mut t = no_numbers(at);

@@ -1,4 +1,4 @@
--- The last line is the one word, or refused: the definition's two cases.
+-- The last line is one word, or refused.
 use mathlib.Core.Path.{sym, ◌∙◌}
 use Rattle.sheet_read_line.proofs.Laws.{end-yes, end-no}
 use Rattle.sheet_read_line.proofs.read_end.Goals as goal
