@@ -1,4 +1,6 @@
 -- Laws over plain values for an `m=` line: signatures and methods. The proofs of the functions cite them.
+use Rattle.std.specs.Prelude.{None, Some, IfSome}
+use Rattle.std.specs.Prelude.{Option as Optionˢ}
 use mathlib.Core.Path.{◌≡◌, refl, sym, ap, ◌∙◌, subst}
 use mathlib.Core.Bool.{Bool, true, false, ◌&&◌, cond}
 use mathlib.Core.List.{List, [], ◌∷◌}
@@ -19,31 +21,14 @@ use Rattle.spec_sheet.specs.Numbers.{Scan, fail, took, bind_scan, whole, number,
 use Rattle.spec_sheet.specs.Text.{state_text}
 use Rattle.spec_sheet.specs.Sheet.{closing, arguments, answer, below, signature, method_line}
 use Rattle.text_read.specs.declared.Numbers.{Numbers}
-use Rattle.text_read.specs.View.{scanned, result_by, items_of, numbers_of, RestEmpty, no_numbers, max_numbers}
-use Rattle.text_read.proofs.Laws.{from-here, at-end, none-empty}
+use Rattle.text_read.specs.View.{items_of, numbers_of, RestEmpty, max_numbers}
+use Rattle.text_read.proofs.Laws.{from-here, at-end}
 use Rattle.sheet_read_method.specs.View.{ArgsWithin, bare_line, Opens}
-use Rattle.sheet_read_method.specs.declared.Opening.{Opening}
-use Rattle.sheet_read_method.specs.declared.Opening.TheVariants.{Other, Signed}
-
--- a refusal's number isn't 0
-pub result-refused : {A : Type 0} (nr : ℕ) (x : A) → 0 < nr → result_by nr x ≡ refuse nr
-result-refused nr x h = ap (λ z. cond z (ok x) (refuse nr)) (ne_eqb nr 0 (λ e. omega arith))
 
 -- an empty line is refused
 pub method-empty : (n : ℕ) → method_line n [] ≡ refuse form
 unfolding method_line starts
 method-empty n = refl
-
--- Numbers as the bytes of a method: those that are there, and 0 for the others.
-module _ (n : ℕ) (t : Numbers) (few : t.count ≤ max_numbers) (rest : RestEmpty t) (a b c d : ℕ) (p : a ≡ t.first) (q : b ≡ t.second) (r : c ≡ t.third) (s : d ≡ t.fourth) where
-  packed : ◌≡◌ {A = List ℕ} (a ∷ b ∷ c ∷ d ∷ []) (items_of t)
-  packed = rw (p, q, r, s)
-
-  pub args-taken : take t.count (a ∷ b ∷ c ∷ d ∷ []) ≡ numbers_of t
-  args-taken = ap (take t.count) packed
-
-  pub args-rest : (k : ℕ) → t.count ≤ k → get_or (a ∷ b ∷ c ∷ d ∷ []) k 0 ≡ 0
-  args-rest k h = ap (λ z. get_or z k 0) packed ∙ rest k h
 
 -- The arguments of a signature.
 pub args_none : (l : List ℕ) (at : ℕ) → at ≡ length l → fail ≡ arguments (drop at l)
@@ -103,26 +88,8 @@ pub answer-none : (l : List ℕ) (at : ℕ) → at ≡ length l → fail ≡ ans
 unfolding answer
 answer-none l at h = sym (ap answer (at-end l at (omega arith)))
 
--- What is handed out of arguments: none where the form is wrong, none between the brackets, and those up to the bracket that closes them.
-module _ (l : List ℕ) where
-  abbrev Read : Numbers → Scan (List ℕ) → Type 0
-  Read t S = (scanned l t.right (numbers_of t) t.next ≡ S) × ArgsWithin (length l) t
-
-  pub none_read : (at : ℕ) (t : Numbers) (S : Scan (List ℕ)) → t ≡ no_numbers at → at ≤ length l → fail ≡ S → Read t S
-  none_read at t S e h q = subst (λ (y : Numbers). Read y S) (sym e) (q, (h, omega arith, none-empty at))
-
-  abbrev right : Numbers → Numbers
-  right t = record { right = true; count = t.count; first = t.first; second = t.second; third = t.third; fourth = t.fourth; next = t.next }
-
-  pub empty-read : (at : ℕ) → at < length l → (t : Numbers) → t ≡ no_numbers (at + 1) → (S : Scan (List ℕ)) → took [] (drop (at + 1) l) ≡ S → Read (right t) S
-  empty-read at h t e S q = subst (λ (y : Numbers). Read (right y) S) (sym e) (q, (omega arith, omega arith, none-empty (at + 1)))
-
-  abbrev closed : Numbers → Numbers
-  closed t = record { right = t.right; count = t.count; first = t.first; second = t.second; third = t.third; fourth = t.fourth; next = t.next + 1 }
-
-  pub closed-read : (t : Numbers) → t.right ≡ true → t.next < length l → t.count ≤ max_arguments → RestEmpty t
-      → (S : Scan (List ℕ)) → took (numbers_of t) (drop (t.next + 1) l) ≡ S → Read (closed t) S
-  closed-read t e h k z S q = (ap (λ b. scanned l b (numbers_of t) (t.next + 1)) e ∙ q, (omega arith, k, z))
+pub args-within : (size : ℕ) (t : Optionˢ Numbers) (x : Numbers) → t ≡ Some x → IfSome t (ArgsWithin size) → ArgsWithin size x
+args-within size t x e h = subst (λ z. IfSome z (ArgsWithin size)) e h
 
 -- an answer among n types
 answer-low : (a n : ℕ) → a ≤ n → unless_missing (answer_of a) (below n) ≡ true
@@ -238,11 +205,11 @@ module _ (n : ℕ) (l : List ℕ) where
     method-bare e = ap (λ z. cond z (signature n optional (drop 11 l)) (bare_line l)) (sym e) ∙ not-avail
 
 -- by the case of its beginning
-pub signed-opens : (l : List ℕ) (o : Opening) (s at : ℕ) → o ≡ Signed s at → Opens l o
-    → (at ≤ length l) × (permit (state_of s) ≡ true) × ((n : ℕ) → signature n (state_of s) (drop at l) ≡ method_line n l)
-signed-opens l o s at e h = subst (Opens l) e h
+pub signed-opens : (l : List ℕ) (o : Optionˢ (ℕ × ℕ)) (p : ℕ × ℕ) → o ≡ Some p → Opens l o
+    → (p.1 ≤ length l) × (permit (state_of p.0) ≡ true) × ((n : ℕ) → signature n (state_of p.0) (drop p.1 l) ≡ method_line n l)
+signed-opens l o p e h = subst (Opens l) e h
 
-pub other-opens : (l : List ℕ) (o : Opening) → o ≡ Other → Opens l o → (n : ℕ) → bare_line l ≡ method_line n l
+pub other-opens : (l : List ℕ) (o : Optionˢ (ℕ × ℕ)) → o ≡ None → Opens l o → (n : ℕ) → bare_line l ≡ method_line n l
 other-opens l o e h = subst (Opens l) e h
 
 -- one without a signature

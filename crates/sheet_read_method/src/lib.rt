@@ -3,206 +3,135 @@
 // unused slots 0 (B13). The other lines are read by crate `sheet_read_line`.
 #![tactic(auto)]
 
-ghost use Rattle.std.specs.Prelude.{◌≡◌, true, false, ◌≤◌, ◌<◌, length, drop};
-ghost use Rattle.spec_model.specs.Basics.{refuse, ok};
+ghost use Rattle.std.specs.Prelude.{◌≡◌, true, false, ◌≤◌, ◌<◌, length, drop, IfOk, IfSome};
 ghost use Rattle.spec_model.specs.Table.{bare, permit, max_sheet_types};
-ghost use Rattle.spec_model.specs.Check.{state_of, answer_of, method_of};
+ghost use Rattle.spec_model.specs.Check.{state_of, answer_of};
 ghost use Rattle.table_record.specs.Store.{raw_method, MethodExact};
 ghost use Rattle.spec_sheet.specs.Lines.{split, line};
 ghost use Rattle.spec_sheet.specs.Sheet.{arguments, answer, signature, method_line};
-ghost use Rattle.text_read.specs.View.{scanned, scan_by, result_by, reading, numbers_of};
-ghost use Rattle.sheet_read_method.specs.View.{ArgsWithin, bare_line, Opens};
+ghost use Rattle.base_numbers.specs.Refusal.{res_by};
+ghost use Rattle.text_read.specs.View.{scan_by, scan_numbers, reading_by};
+ghost use Rattle.sheet_read_method.specs.View.{method_is, ArgsWithin, bare_line, Opens};
 
-use base_numbers::{narrow, refusal};
+use base_numbers::refusal::Refusal;
 use sheet_read_line::all_below;
 use table_record::{Counts, Method};
 use text_cursor::{Cursor, between, next_line};
-use text_read::{Number, Numbers};
-
-// How an `m=` line begins: with the state of a method that has a signature, which starts at an offset of the line, or otherwise.
-#[derive(Clone, Copy)]
-pub enum Opening {
-    Other,
-    Signed(u8, usize),
-}
-
-// An `m=` line: the number of a refusal, or 0 and the method. (A method holds an array, so these are no enums.)
-#[derive(Clone, Copy)]
-pub struct MethodLine {
-    pub refusal: usize,
-    pub m: Method,
-}
-
-// The next line, an `m=` line: the cursor stands behind it, or at a line that is refused.
-#[derive(Clone, Copy)]
-pub struct MethodGot {
-    pub refusal: usize,
-    pub m: Method,
-    pub next: Cursor,
-}
+use text_read::{Malformed, Numbers, begins, is_word, no_numbers, number_at, numbers_at, placed};
 
 // The arguments of a signature, to the bracket that closes them (S26). One too many is a fault of form (S11).
-fn args_at(l: &[u8], at: usize) -> Numbers
+fn args_at(l: &[u8], at: usize) -> Option<Numbers>
     requires { at ≤ length l.now }
-    ensures is { scanned l.now result.right (numbers_of result) result.next ≡ arguments (drop at l.now) }
-    ensures within { ArgsWithin (length l.now) result }
+    ensures is { scan_numbers l.now result ≡ arguments (drop at l.now) }
+    ensures within { IfSome result (ArgsWithin (length l.now)) }
 {
     if at == l.len() {
-        return text_read::no_numbers(at);
+        return None;
     }
     if l[at] == b')' {
-        let mut none = text_read::no_numbers(at + 1);
-        none.right = true;
-        return none;
+        return Some(no_numbers(at + 1));
     }
-    let mut t = text_read::numbers_at(l, at, Counts::ARGUMENTS);
-    if !t.right {
-        return t;
-    }
+    let t = numbers_at(l, at, Counts::ARGUMENTS)?;
     let e = t.next;
-    if e == l.len() {
-        return text_read::no_numbers(at);
+    if e == l.len() || l[e] != b')' {
+        return None;
     }
-    if l[e] != b')' {
-        return text_read::no_numbers(at);
-    }
-    t.next = e + 1;
-    t
+    Some(Numbers { next: e + 1, ..t })
 }
 
 // The answer of a signature: 0 for `-`, else the number plus 1 (B10).
-fn answer_at(l: &[u8], at: usize) -> Number
+fn answer_at(l: &[u8], at: usize) -> Option<(usize, usize)>
     requires { at ≤ length l.now }
     ensures { scan_by answer_of l.now result ≡ answer (drop at l.now) }
 {
     if at == l.len() {
-        return Number::Wrong;
+        return None;
     }
     if l[at] == b'-' {
-        return Number::Right(0, at + 1);
+        return Some((0, at + 1));
     }
-    let t = text_read::number_at(l, at);
-    match t {
-        Number::Wrong => Number::Wrong,
-        Number::Right(n, next) => Number::Right(n + 1, next),
-    }
-}
-
-fn no_method(refusal: usize) -> MethodLine
-    requires { 0 < refusal }
-    ensures is { result_by result.refusal (method_of (raw_method result.m)) ≡ refuse refusal }
-    ensures exact { MethodExact (raw_method result.m) }
-{
-    let m = Method::empty();
-    MethodLine { refusal, m }
+    let (n, next) = number_at(l, at)?;
+    Some((n + 1, next))
 }
 
 // A method without a signature.
-fn read_unsigned(state: u8) -> MethodLine
+fn unsigned(state: u8) -> Method
     requires { (permit (state_of state) ≡ false) × (state < 4) }
-    ensures is { result_by result.refusal (method_of (raw_method result.m)) ≡ ok (bare (state_of state)) }
-    ensures exact { MethodExact (raw_method result.m) }
+    ensures is { method_is result ≡ bare (state_of state) }
+    ensures exact { MethodExact (raw_method result) }
 {
-    let m = Method {
+    Method {
         state,
-        count: 0,
-        args: [0u8; Method::SLOTS],
-        answer: 0,
-    };
-    MethodLine { refusal: 0, m }
+        ..Method::empty()
+    }
 }
 
 // A signature, from `at` on, of a sheet with n types (S26): a number that isn't below n is 2 (S29).
-fn read_signature(l: &[u8], at: usize, state: u8, n: usize) -> MethodLine
+fn read_signature(l: &[u8], at: usize, state: u8, n: usize) -> Result<Method, Refusal>
     requires { (at ≤ length l.now) × (n ≤ max_sheet_types) × (permit (state_of state) ≡ true) }
-    ensures is { result_by result.refusal (method_of (raw_method result.m)) ≡ signature n (state_of state) (drop at l.now) }
-    ensures exact { MethodExact (raw_method result.m) }
+    ensures is { res_by method_is result ≡ signature n (state_of state) (drop at l.now) }
+    ensures exact { IfOk result (λ m. MethodExact (raw_method m)) }
 {
-    let t = args_at(l, at);
-    if !t.right {
-        return no_method(refusal::FORM);
-    }
-    let o = answer_at(l, t.next);
-    let Number::Right(a, next) = o else {
-        return no_method(refusal::FORM);
-    };
+    let t = args_at(l, at).ok_or(Refusal::Form)?;
+    let (a, next) = answer_at(l, t.next).ok_or(Refusal::Form)?;
     if next < l.len() {
-        return no_method(refusal::FORM);
+        return Err(Refusal::Form);
     }
-    if !all_below(t, n) {
-        return no_method(refusal::OUT_OF_RANGE);
+    if !all_below(t, n) || n < a {
+        return Err(Refusal::OutOfRange);
     }
-    if n < a {
-        return no_method(refusal::OUT_OF_RANGE);
-    }
-    let m = Method {
+    Ok(Method {
         state,
-        count: narrow(t.count),
-        args: [
-            narrow(t.first),
-            narrow(t.second),
-            narrow(t.third),
-            narrow(t.fourth),
-        ],
-        answer: narrow(a),
-    };
-    MethodLine { refusal: 0, m }
+        count: t.count as u8,
+        args: [t.first as u8, t.second as u8, t.third as u8, t.fourth as u8],
+        answer: a as u8,
+    })
 }
 
-// How an `m=` line begins: behind `avail(` and `optional(` a signature starts.
-fn opened(l: &[u8]) -> Opening
+// How an `m=` line begins: behind `avail(` and `optional(` a signature starts; the state, and where in the line.
+fn opened(l: &[u8]) -> Option<(u8, usize)>
     ensures { Opens l.now result }
 {
-    if text_read::begins(l, b"m=avail(") {
-        return Opening::Signed(Method::AVAIL, 8);
+    if begins(l, b"m=avail(") {
+        return Some((Method::AVAIL, 8));
     }
-    if text_read::begins(l, b"m=optional(") {
-        return Opening::Signed(Method::OPTIONAL, 11);
+    if begins(l, b"m=optional(") {
+        return Some((Method::OPTIONAL, 11));
     }
-    Opening::Other
+    None
 }
 
 // An `m=` line without a signature.
-fn read_bare(l: &[u8]) -> MethodLine
-    ensures is { result_by result.refusal (method_of (raw_method result.m)) ≡ bare_line l.now }
-    ensures exact { MethodExact (raw_method result.m) }
+fn read_bare(l: &[u8]) -> Result<Method, Refusal>
+    ensures is { res_by method_is result ≡ bare_line l.now }
+    ensures exact { IfOk result (λ m. MethodExact (raw_method m)) }
 {
-    if text_read::is_word(l, b"m=denied") {
-        return read_unsigned(Method::DENIED);
+    if is_word(l, b"m=denied") {
+        return Ok(unsigned(Method::DENIED));
     }
-    if text_read::is_word(l, b"m=unavail") {
-        return read_unsigned(Method::UNAVAIL);
+    if is_word(l, b"m=unavail") {
+        return Ok(unsigned(Method::UNAVAIL));
     }
-    no_method(refusal::FORM)
+    Err(Refusal::Form)
 }
 
 // An `m=` line of a sheet with n types (S26).
-fn read_method(l: &[u8], n: usize) -> MethodLine
+fn read_method(l: &[u8], n: usize) -> Result<Method, Refusal>
     requires { n ≤ max_sheet_types }
-    ensures is { result_by result.refusal (method_of (raw_method result.m)) ≡ method_line n l.now }
-    ensures exact { MethodExact (raw_method result.m) }
+    ensures is { res_by method_is result ≡ method_line n l.now }
+    ensures exact { IfOk result (λ m. MethodExact (raw_method m)) }
 {
-    let o = opened(l);
-    match o {
-        Opening::Other => read_bare(l),
-        Opening::Signed(state, at) => read_signature(l, at, state, n),
+    match opened(l) {
+        None => read_bare(l),
+        Some((state, at)) => read_signature(l, at, state, n),
     }
 }
 
-pub fn next_method(s: &[u8], c: Cursor, n: usize) -> MethodGot
+pub fn next_method(s: &[u8], c: Cursor, n: usize) -> Result<(Method, Cursor), Malformed>
     requires { n ≤ max_sheet_types }
-    ensures is { reading s.now result.refusal (method_of (raw_method result.m)) result.next.at
-        ≡ line (method_line n) c.at (split (drop c.at s.now)) }
-    ensures exact { MethodExact (raw_method result.m) }
+    ensures is { reading_by method_is s.now result ≡ line (method_line n) c.at (split (drop c.at s.now)) }
+    ensures exact { IfOk result (λ r. MethodExact (raw_method r.0)) }
 {
     let d = next_line(s, c);
-    let l = between(s, c, d);
-    let g = read_method(l, n);
-    let next = text_read::past_accepted(g.refusal, c, d);
-    let m = g.m;
-    MethodGot {
-        refusal: g.refusal,
-        m,
-        next,
-    }
+    placed(read_method(between(s, c, d), n), c, d)
 }

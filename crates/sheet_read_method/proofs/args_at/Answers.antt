@@ -1,68 +1,57 @@
--- By the first byte, and the one behind the numbers. Rests on the laws of arguments.
-use mathlib.Core.Path.{sym, ◌∙◌}
-use Prim.Native.Nat.{◌<◌}
+-- Nothing between the brackets, or numbers and the bracket that closes them: the definition's cases.
+use mathlib.Core.List.{[]}
+use mathlib.Core.Path.{◌≡◌, ap, sym, ◌∙◌}
+use Prim.Native.Nat.{◌+◌, ◌<◌}
 use native.Mathlib.Omega.{arith}
-use lib.ListN.{length}
-use borrow.Author.Tests.{not-true, not-false}
-use Rattle.text_read.specs.View.{numbers_of}
-use Rattle.text_read.proofs.Laws.{scan-right, scan-wrong}
-use Rattle.sheet_read_method.proofs.Laws.{args_none, args-empty, args-wrong, args-open, args-other, args-closed, none_read, empty-read, closed-read}
+use lib.ListN.{length, drop}
+use Rattle.std.proofs.Common.{rules}
+use Rattle.std.specs.Prelude.{None, Some}
+use Rattle.spec_sheet.specs.Numbers.{took}
+use Rattle.text_read.specs.declared.Numbers.{Numbers}
+use Rattle.text_read.specs.View.{scan_numbers, numbers_of}
+use Rattle.text_read.proofs.Laws.{numbers-wrong, numbers-right, numbers-within}
+use Rattle.sheet_read_method.proofs.Laws.{args_none, args-empty, args-wrong, args-open, args-other, args-closed}
 use Rattle.sheet_read_method.proofs.args_at.Goals as goal
+use Rattle.sheet_read_method.proofs.args_at.Goals.{then-e-l-via-then-e-l, then-e-l-via-else-e-l+then-l-e-ne41}
 
-pub returns-then-at-l : goal.returns-then-at-l
-returns-then-at-l c =
+pub returns-then-at-l-clause-is : goal.returns-then-at-l-clause-is
+returns-then-at-l-clause-is c = args_none _ _ c.if-at-l.true
+
+pub returns-then-l-at-eq41-clause-is : goal.returns-then-l-at-eq41-clause-is
+returns-then-l-at-eq41-clause-is c =
+    let l = c.args.l.now in
+    let h : c.args.at < length l = omega arith in
+    ap (λ (t : Numbers). took (numbers_of t) (drop t.next l)) c.no_numbers.ensures ∙ args-empty l _ h c.if-l-at-eq41.true
+
+pub returns-in_err-t-clause-is : goal.returns-in_err-t-clause-is
+returns-in_err-t-clause-is c =
     let a = c.args in
-    let z = none_read a.l.now a.at c.no_numbers.result _ c.no_numbers.ensures c.requires (args_none a.l.now a.at c.if-at-l.true) in record { is = z.0; within = z.1 }
+    let h : a.at < length a.l.now = omega arith in
+    let t = c.numbers_at in
+    let n : t.result ≡ None = search rules in
+    let e : c.from_residual.result ≡ None = search rules in
+    ap (scan_numbers a.l.now) e ∙ args-wrong _ _ h c.if-l-at-eq41.false (numbers-wrong a.l.now t.result _ t.ensures.is n)
 
-pub returns-then-l-at-eq41 : goal.returns-then-l-at-eq41
-returns-then-l-at-eq41 c =
+pub returns-then-e-l-clause-is : goal.returns-then-e-l-clause-is
+returns-then-e-l-clause-is c =
     let a = c.args in
-    let h : a.at < length a.l.now = omega (arith, c.requires, c.if-at-l.false) in
-    let z = empty-read a.l.now a.at h c.no_numbers-none.result c.no_numbers-none.ensures _ (args-empty a.l.now a.at h c.if-l-at-eq41.true) in record { is = z.0; within = z.1 }
+    let h : a.at < length a.l.now = omega arith in
+    let t = c.numbers_at in
+    let x = c.in_ok-t.t in
+    let e : t.result ≡ Some x = search rules in
+    let s = numbers-right a.l.now t.result _ t.ensures.is x e in
+    let w = numbers-within _ _ t.result x e t.ensures.within in
+    elim c.then-e-l.branch [
+      | then-e-l-via-then-e-l b ↦ args-open _ _ h c.if-l-at-eq41.false _ _ s b.if-e-l.true
+      | then-e-l-via-else-e-l+then-l-e-ne41 b ↦ args-other _ _ h c.if-l-at-eq41.false _ _ s (omega (arith, w.0, b.if-e-l.false)) b.if-l-e-ne41.true
+    ]
 
-pub returns-then-not-t : goal.returns-then-not-t
-returns-then-not-t c =
+pub returns-clause-is : goal.returns-clause-is
+returns-clause-is c =
     let a = c.args in
-    let t = c.numbers_at-t in
-    let wrong = not-true t.result.right c.if-not-t.true in
-    let h : a.at < length a.l.now = omega (arith, c.requires, c.if-at-l.false) in record {
-      is = t.ensures.is ∙ sym (scan-wrong a.l.now t.result.right (numbers_of t.result) t.result.next _ t.ensures.is wrong)
-          ∙ args-wrong a.l.now a.at h c.if-l-at-eq41.false (scan-wrong a.l.now t.result.right (numbers_of t.result) t.result.next _ t.ensures.is wrong);
-      within = (t.ensures.within.0, t.ensures.within.1, t.ensures.within.2);
-    }
-
-pub returns-then-e-l : goal.returns-then-e-l
-returns-then-e-l c =
-    let a = c.args in
-    let t = c.numbers_at-t in
-    let h : a.at < length a.l.now = omega (arith, c.requires, c.if-at-l.false) in
-    let s = scan-right a.l.now t.result.right (numbers_of t.result) t.result.next _ t.ensures.is (not-false t.result.right c.if-not-t.false) in
-    let z = none_read a.l.now a.at c.no_numbers-then-e-l.result _ c.no_numbers-then-e-l.ensures c.requires
-    (args-open a.l.now a.at h c.if-l-at-eq41.false (numbers_of t.result) t.result.next s c.if-e-l.true) in record { is = z.0; within = z.1 }
-
-pub bounds-l-e : goal.bounds-l-e
-bounds-l-e c = omega (arith, c.if-e-l.false, c.numbers_at-t.ensures.within.0)
-
-pub returns-then-l-e-ne41 : goal.returns-then-l-e-ne41
-returns-then-l-e-ne41 c =
-    let a = c.args in
-    let t = c.numbers_at-t in
-    let h : a.at < length a.l.now = omega (arith, c.requires, c.if-at-l.false) in
-    let k : t.result.next < length a.l.now = omega (arith, t.ensures.within.0, c.if-e-l.false) in
-    let s = scan-right a.l.now t.result.right (numbers_of t.result) t.result.next _ t.ensures.is (not-false t.result.right c.if-not-t.false) in
-    let z = none_read a.l.now a.at c.no_numbers-then-l-e-ne41.result _ c.no_numbers-then-l-e-ne41.ensures c.requires
-    (args-other a.l.now a.at h c.if-l-at-eq41.false (numbers_of t.result) t.result.next s k c.if-l-e-ne41.true) in record { is = z.0; within = z.1 }
-
-pub overflow_add-t : goal.overflow_add-t
-overflow_add-t c = omega (arith, c.if-e-l.false, c.numbers_at-t.ensures.within.0)
-
-pub returns : goal.returns
-returns c =
-    let a = c.args in
-    let t = c.numbers_at-t in
-    let h : a.at < length a.l.now = omega (arith, c.requires, c.if-at-l.false) in
-    let k : t.result.next < length a.l.now = omega (arith, t.ensures.within.0, c.if-e-l.false) in
-    let right = not-false t.result.right c.if-not-t.false in
-    let s = scan-right a.l.now t.result.right (numbers_of t.result) t.result.next _ t.ensures.is right in
-    let z = closed-read a.l.now t.result right k t.ensures.within.1 t.ensures.within.2 _
-    (args-closed a.l.now a.at h c.if-l-at-eq41.false (numbers_of t.result) t.result.next s k c.if-l-e-ne41.false) in record { is = z.0; within = z.1 }
+    let h : a.at < length a.l.now = omega arith in
+    let t = c.numbers_at in
+    let x = c.in_ok-t.t in
+    let e : t.result ≡ Some x = search rules in
+    let w = numbers-within _ _ t.result x e t.ensures.within in
+    args-closed _ _ h c.if-l-at-eq41.false _ _ (numbers-right a.l.now t.result _ t.ensures.is x e) (omega (arith, w.0, c.if-e-l.false)) c.if-l-e-ne41.false
