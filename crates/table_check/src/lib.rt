@@ -11,17 +11,14 @@ ghost use Rattle.table_record.specs.Limits.{Limits};
 ghost use Rattle.table_check.specs.Parts.{stands_as, signature_accepted, method_accepted};
 ghost use Rattle.table_check.specs.Parts.{methods_accepted, key_accepted, head_accepted, bound_of, type_accepted, types_accepted, args_accepted};
 
-use table_record::{Counts, Head, Key, LINK_BYTES, Method, TYPE_BYTES};
+use table_record::{Counts, Head, Kind, LINK_BYTES, Method, TYPE_BYTES};
 
 // Whether type a may stand in a signature whose types are the first n (T14).
 fn stands_in(b: &[u8; TYPE_BYTES], n: usize, a: usize) -> bool
     requires { n ≤ max_types }
     ensures { result ≡ stands_as (types_in b.now) n a }
 {
-    if n <= a {
-        return false;
-    }
-    table_record::may_stand(b, a)
+    a < n && table_record::may_stand(b, a)
 }
 
 // The argument types of a method.
@@ -29,14 +26,10 @@ fn args_fit(b: &[u8; TYPE_BYTES], n: usize, m: Method) -> bool
     requires { (n ≤ max_types) × (m.count ≤ argument_slots) }
     ensures { result ≡ args_accepted (types_in b.now) n (raw_method m) }
 {
-    let count = base_numbers::wide(m.count);
-    let mut i: usize = 0;
-    while i < count {
-        let x = m.args[i];
-        if !stands_in(b, n, base_numbers::wide(x)) {
+    for x in &m.args[..usize::from(m.count)] {
+        if !stands_in(b, n, usize::from(*x)) {
             return false;
         }
-        i += 1;
     }
     true
 }
@@ -46,18 +39,10 @@ fn signature_fits(b: &[u8; TYPE_BYTES], n: usize, m: Method) -> bool
     requires { n ≤ max_types }
     ensures { result ≡ signature_accepted (types_in b.now) n (raw_method m) }
 {
-    let count = base_numbers::wide(m.count);
-    if Counts::ARGUMENTS < count {
-        return false;
-    }
-    if !args_fit(b, n, m) {
-        return false;
-    }
-    let answer = base_numbers::wide(m.answer);
-    if answer == 0 {
-        return true;
-    }
-    stands_in(b, n, answer - 1)
+    let answer = usize::from(m.answer);
+    usize::from(m.count) <= Counts::ARGUMENTS
+        && args_fit(b, n, m)
+        && (answer == 0 || stands_in(b, n, answer - 1))
 }
 
 // T12: only optional and avail have a signature. What stands beside another state is not looked at (H15).
@@ -65,16 +50,11 @@ fn method_fits(b: &[u8; TYPE_BYTES], n: usize, m: Method) -> bool
     requires { n ≤ max_types }
     ensures { result ≡ method_accepted (types_in b.now) n (raw_method m) }
 {
-    if Method::UNAVAIL < m.state {
-        return false;
+    match m.state {
+        Method::DENIED | Method::UNAVAIL => true,
+        Method::OPTIONAL | Method::AVAIL => signature_fits(b, n, m),
+        _ => false,
     }
-    if m.state == Method::DENIED {
-        return true;
-    }
-    if m.state == Method::UNAVAIL {
-        return true;
-    }
-    signature_fits(b, n, m)
 }
 
 // The methods of type i, whose signatures hold types below n.
@@ -82,12 +62,10 @@ fn methods_fit(b: &[u8; TYPE_BYTES], i: usize, n: usize, methods: usize) -> bool
     requires { (i < max_types) × (n ≤ max_types) × (methods ≤ max_methods) }
     ensures { result ≡ methods_accepted (types_in b.now) n methods (get_or (types_in b.now) i no_raw_type) }
 {
-    let mut j: usize = 0;
-    while j < methods {
+    for j in 0..methods {
         if !method_fits(b, n, table_record::get_method(b, i, j)) {
             return false;
         }
-        j += 1;
     }
     true
 }
@@ -96,28 +74,16 @@ fn methods_fit(b: &[u8; TYPE_BYTES], i: usize, n: usize, methods: usize) -> bool
 fn key_fits(h: Head, c: Counts, i: usize) -> bool
     ensures { result ≡ key_accepted c i h }
 {
-    if i < c.sheet {
-        return true;
-    }
-    if Key::CLOSED < h.kind {
-        return false;
-    }
-    if c.types <= base_numbers::wide(h.left) {
-        return false;
-    }
-    base_numbers::wide(h.right) < c.types
+    i < c.sheet
+        || (h.kind <= Kind::Closed.code()
+            && usize::from(h.left) < c.types
+            && usize::from(h.right) < c.types)
 }
 
 fn head_fits(h: Head, c: Counts, i: usize) -> bool
     ensures { result ≡ head_accepted c i h }
 {
-    if Head::W64 < h.rep {
-        return false;
-    }
-    if c.cats < base_numbers::wide(h.cat) {
-        return false;
-    }
-    key_fits(h, c, i)
+    h.rep <= Head::W64 && usize::from(h.cat) <= c.cats && key_fits(h, c, i)
 }
 
 // T15: the types that may stand in the signatures of type i are the first so many.
@@ -125,10 +91,7 @@ fn bound(c: Counts, i: usize) -> usize
     requires { Limits c }
     ensures { (result ≡ bound_of c i) × (result ≤ max_types) }
 {
-    if i < c.sheet {
-        return c.sheet;
-    }
-    c.types
+    if i < c.sheet { c.sheet } else { c.types }
 }
 
 // Type i: a number type has neither own flag nor methods (T11).
@@ -137,29 +100,18 @@ fn type_fits(b: &[u8; TYPE_BYTES], c: Counts, i: usize) -> bool
     ensures { result ≡ type_accepted (types_in b.now) c i (get_or (types_in b.now) i no_raw_type) }
 {
     let h = table_record::get_head(b, i);
-    if !head_fits(h, c, i) {
-        return false;
-    }
-    if h.rep != Head::REF {
-        return true;
-    }
-    if Head::OWN < h.own {
-        return false;
-    }
-    methods_fit(b, i, bound(c, i), c.methods)
+    head_fits(h, c, i)
+        && (h.rep != Head::REF || (h.own <= Head::OWN && methods_fit(b, i, bound(c, i), c.methods)))
 }
 
 fn types_fit(b: &[u8; TYPE_BYTES], c: Counts) -> bool
     requires { Limits c }
     ensures { result ≡ types_accepted (types_in b.now) c }
 {
-    let n = c.types;
-    let mut i: usize = 0;
-    while i < n {
+    for i in 0..c.types {
         if !type_fits(b, c, i) {
             return false;
         }
-        i += 1;
     }
     true
 }
@@ -168,11 +120,5 @@ fn types_fit(b: &[u8; TYPE_BYTES], c: Counts) -> bool
 pub fn table_fits(b: &[u8; TYPE_BYTES], l: &[u8; LINK_BYTES], c: Counts) -> bool
     ensures { result ≡ table_accepted (raw_table b.now l.now c) }
 {
-    if !table_check_links::counts_fit(c) {
-        return false;
-    }
-    if !table_check_links::links_fit(l, c.cats) {
-        return false;
-    }
-    types_fit(b, c)
+    table_check_links::counts_fit(c) && table_check_links::links_fit(l, c.cats) && types_fit(b, c)
 }

@@ -1,12 +1,12 @@
 -- Tests over counted numbers: the model's `all` and `every` over `from`, and a loop that goes through the numbers.
-use mathlib.Core.Path.{◌≡◌, refl, ap, sym, ◌∙◌}
+use mathlib.Core.Path.{◌≡◌, refl, ap, ◌∙◌}
 use mathlib.Core.Bool.{Bool, true, false, ◌&&◌}
-use mathlib.Core.List.{List, [], ◌∷◌}
+use mathlib.Core.List.{List}
 use Prim.Native.Nat.{ℕ, zero, suc, ◌+◌, ◌-◌, ◌≤◌, ◌<◌}
-use native.Mathlib.Nat.{not-suc-le-zero, le_of_suc-le-suc}
 use native.Mathlib.Numerals.{add-one}
 use native.Mathlib.Omega.{arith}
-use lib.ListN.{length, get_or, take}
+use lib.ListN.{length, get_or, drop, drop_of_length-le}
+use lib.Seq.{drop-cons}
 use Rattle.spec_model.specs.Basics.{all, every, from}
 use Rattle.table_check_links.specs.Parts.{each_from}
 
@@ -48,19 +48,6 @@ unfolding each_from
 each_same f g h zero i = refl
 each_same f g h (suc c) i = rw (h i, each_same f g h c (suc i))
 
--- the first c elements of a list, by their numbers
-pub all_take : (p : ℕ → Bool) (c : ℕ) (xs : List ℕ) → c ≤ length xs → all p (take c xs) ≡ each_from c 0 (λ k. p (get_or xs k 0))
-unfolding each_from
-all_take p c xs h = go c xs 0 (λ k. p (get_or xs k 0)) h (λ k l. let e : 0 + k ≡ k = omega arith in ap (λ (n : ℕ). p (get_or xs n 0)) e)
-  where
-    go : (c : ℕ) (xs : List ℕ) (i : ℕ) (f : ℕ → Bool) → c ≤ length xs → ((k : ℕ) → k < c → f (i + k) ≡ p (get_or xs k 0)) → all p (take c xs) ≡ each_from c i f
-    go zero xs i f h e = refl
-    go (suc c) [] i f h e = absurd (not-suc-le-zero h)
-    go (suc c) (x ∷ xs) i f h e =
-        let z : i ≡ i + 0 = omega arith in
-        ap (λ (q : Bool). q && all p (take c xs)) (sym (ap f z ∙ e 0 (omega arith)))
-        ∙ ap (λ (q : Bool). f i && q) (go c xs (suc i) f (le_of_suc-le-suc h) (λ k l. let s : suc i + k ≡ i + suc k = omega arith in ap f s ∙ e (suc k) (omega arith)))
-
 -- A loop over the numbers below n, at i: what is left of the test.
 module _ (f : ℕ → Bool) (n i : ℕ) where
   pub rest-next : i < n → f i ≡ true → each_from (n - i) i f ≡ each_from (n - (i + 1)) (i + 1) f
@@ -74,3 +61,14 @@ module _ (f : ℕ → Bool) (n i : ℕ) where
   pub rest_end : n ≤ i → each_from (n - i) i f ≡ true
   unfolding each_from
   rest_end h = let s : n - i ≡ 0 = omega arith in rw s
+
+-- A loop over a list, at i: what is left of the test.
+module _ {A : Type 0} (p : A → Bool) (xs : List A) (i : ℕ) (d : A) where
+  pub all-next : i < length xs → p (get_or xs i d) ≡ true → all p (drop i xs) ≡ all p (drop (i + 1) xs)
+  all-next h e = rw (drop-cons xs i d h, e, add-one i)
+
+  pub all-broken : i < length xs → p (get_or xs i d) ≡ false → all p (drop i xs) ≡ false
+  all-broken h e = rw (drop-cons xs i d h, e)
+
+  pub all-end : length xs ≤ i → all p (drop i xs) ≡ true
+  all-end h = rw (drop_of_length-le xs h)

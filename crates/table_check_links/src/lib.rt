@@ -13,31 +13,18 @@ use table_record::{Counts, LINK_BYTES};
 fn within(low: usize, high: usize, n: usize) -> bool
     ensures { result ≡ between low high n }
 {
-    if n < low {
-        return false;
-    }
-    n <= high
+    low <= n && n <= high
 }
 
 pub fn counts_fit(c: Counts) -> bool
     ensures { result ≡ counts_accepted c }
 {
-    if !within(1, Counts::SUBJECTS, c.subjects) {
-        return false;
-    }
-    if !within(1, Counts::METHODS, c.methods) {
-        return false;
-    }
-    if Counts::CATEGORIES < c.cats {
-        return false;
-    }
-    if !within(1, Counts::SHEET_TYPES, c.sheet) {
-        return false;
-    }
-    if c.types < c.sheet {
-        return false;
-    }
-    c.types <= Counts::TYPES
+    within(1, Counts::SUBJECTS, c.subjects)
+        && within(1, Counts::METHODS, c.methods)
+        && c.cats <= Counts::CATEGORIES
+        && within(1, Counts::SHEET_TYPES, c.sheet)
+        && c.sheet <= c.types
+        && c.types <= Counts::TYPES
 }
 
 // T6: category k names one or two categories below it.
@@ -46,31 +33,20 @@ fn link_fits(l: &[u8; LINK_BYTES], k: usize) -> bool
     ensures { result ≡ link_accepted k (get_or (links_in l.now) k no_raw_links) }
 {
     let x = table_record::get_links(l, k);
-    let count = base_numbers::wide(x.count);
-    let first = base_numbers::wide(x.first);
-    let second = base_numbers::wide(x.second);
-    if !within(1, Counts::BROADER, count) {
-        return false;
-    }
-    if k <= first {
-        return false;
-    }
-    if count == 2 {
-        return second < k;
-    }
-    true
+    let count = usize::from(x.count);
+    within(1, Counts::BROADER, count)
+        && usize::from(x.first) < k
+        && (count != 2 || usize::from(x.second) < k)
 }
 
 pub fn links_fit(l: &[u8; LINK_BYTES], cats: usize) -> bool
     requires { cats ≤ max_categories }
     ensures { result ≡ links_accepted cats (links_in l.now) }
 {
-    let mut k: usize = 1;
-    while k < cats + 1 {
+    for k in 1..cats + 1 {
         if !link_fits(l, k) {
             return false;
         }
-        k += 1;
     }
     true
 }

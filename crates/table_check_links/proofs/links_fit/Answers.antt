@@ -14,24 +14,21 @@ pub loop-k-init : goal.loop-k-init
 unfolding links_accepted
 loop-k-init c = let a = c.args in
     let e : a.cats ≡ a.cats + 1 - 1 = omega arith in
-    (omega arith, omega arith, ap (λ (n : ℕ). each_from n 1 (λ j. link_accepted j (get_or (links_in a.l.now) j no_raw_links))) e)
+    ap (λ (n : ℕ). each_from n 1 (λ j. link_accepted j (get_or (links_in a.l.now) j no_raw_links))) e
 
 pub returns-then-not-link_fits : goal.returns-then-not-link_fits
 returns-then-not-link_fits c = let a = c.args in
     let l = c.loop-k in
-    sym (l.invariant.2 ∙ rest-broken (λ j. link_accepted j (get_or (links_in a.l.now) j no_raw_links)) (a.cats + 1) l.k c.loop-k-test.true
+    sym (l.invariant ∙ rest-broken (λ j. link_accepted j (get_or (links_in a.l.now) j no_raw_links)) (a.cats + 1) l.k (omega arith)
     (refused c.link_fits.result _ c.link_fits.ensures (ap not c.if-not-link_fits.true)))
 
 pub loop-k-preserved : goal.loop-k-preserved
 loop-k-preserved c = let a = c.args in
-    let l = c.loop-k in (
-      omega arith,
-      omega arith,
-      l.invariant.2 ∙ rest-next (λ j. link_accepted j (get_or (links_in a.l.now) j no_raw_links)) (a.cats + 1) l.k c.loop-k-test.true
-          (passed c.link_fits.result _ c.link_fits.ensures (ap not c.if-not-link_fits.false)),
-    )
+    let l = c.loop-k in
+    l.invariant ∙ rest-next (λ j. link_accepted j (get_or (links_in a.l.now) j no_raw_links)) (a.cats + 1) l.k (omega arith)
+    (passed c.link_fits.result _ c.link_fits.ensures (ap not c.if-not-link_fits.false))
 
 pub returns : goal.returns
 returns c = let a = c.args in
     let l = c.loop-k in
-    sym (l.invariant.2 ∙ rest_end (λ j. link_accepted j (get_or (links_in a.l.now) j no_raw_links)) (a.cats + 1) l.k c.loop-k-test.false)
+    sym (l.invariant ∙ rest_end (λ j. link_accepted j (get_or (links_in a.l.now) j no_raw_links)) (a.cats + 1) l.k (omega arith))
