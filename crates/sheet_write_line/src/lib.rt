@@ -10,7 +10,6 @@ ghost use Rattle.spec_sheet.specs.Text.{under_text, rep_text, own_text, answer_t
 ghost use Rattle.text_write.specs.Fill.{Filled, Lined};
 ghost use Rattle.sheet_write_line.specs.Pieces.{argument_text, closing_text, signed_text, second_text};
 
-use base_numbers::{least, wide};
 use table_record::{Head, Links, Method};
 use text_write::{put_byte, put_bytes, put_decimal, put_number, write_number, write_word};
 
@@ -30,15 +29,11 @@ fn put_arguments(buf: &mut [u8], count: usize, args: [u8; Method::SLOTS]) -> usi
     ensures is { Filled buf.old buf.new (commas (take count args)) result }
     ensures few { result ≤ 144 }
 {
-    let n = least(count, Method::SLOTS);
+    let n = count.min(Method::SLOTS);
     let mut at: usize = 0;
-    let mut i: usize = 0;
-    while i < n {
-        let a = wide(args[i]);
-        let k = least(at, buf.len());
-        let c = put_argument(&mut buf[k..], i, a);
-        at += c;
-        i += 1;
+    for (i, &a) in args[..n].iter().enumerate() {
+        let k = at.min(buf.len());
+        at += put_argument(&mut buf[k..], i, usize::from(a));
     }
     at
 }
@@ -49,10 +44,9 @@ fn put_answer(buf: &mut [u8], answer: u8) -> usize
     ensures few { result ≤ 20 }
 {
     if answer == 0 {
-        return put_byte(buf, 45);
+        return put_byte(buf, b'-');
     }
-    let n = wide(answer - 1);
-    put_decimal(buf, n)
+    put_decimal(buf, usize::from(answer - 1))
 }
 
 // The end of a signature: the bracket, the answer, and the end of the line.
@@ -60,13 +54,11 @@ fn put_closing(buf: &mut [u8], answer: u8) -> usize
     ensures is { Filled buf.old buf.new (closing_text answer) result }
     ensures few { result ≤ 22 }
 {
-    let a = put_byte(buf, 41);
-    let k = least(a, buf.len());
-    let b = put_answer(&mut buf[k..], answer);
-    let d = a + b;
-    let j = least(d, buf.len());
-    let c = put_byte(&mut buf[j..], 10);
-    d + c
+    let a = put_byte(buf, b')');
+    let j = a.min(buf.len());
+    let a = a + put_answer(&mut buf[j..], answer);
+    let k = a.min(buf.len());
+    a + put_byte(&mut buf[k..], b'\n')
 }
 
 // The line of a permitted method, whose key ends in the bracket (S26).
@@ -75,32 +67,25 @@ fn write_signed(buf: &mut [u8], key: &[u8], m: Method) -> usize
     ensures is { Lined buf.old buf.new (signed_text key.now m.count m.args m.answer ∷ []) result }
     ensures few { result ≤ 182 }
 {
-    let args = m.args;
     let a = put_bytes(buf, key);
-    let k = least(a, buf.len());
-    let b = put_arguments(&mut buf[k..], wide(m.count), args);
-    let d = a + b;
-    let j = least(d, buf.len());
-    let c = put_closing(&mut buf[j..], m.answer);
-    d + c
+    let j = a.min(buf.len());
+    let a = a + put_arguments(&mut buf[j..], usize::from(m.count), m.args);
+    let k = a.min(buf.len());
+    a + put_closing(&mut buf[k..], m.answer)
 }
 
 // The line of a method (S26).
+#[tactic(auto, unfolding(spec_sheet::specs::Text::method_text))]
 pub fn write_method(buf: &mut [u8], m: Method) -> usize
     ensures is { Lined buf.old buf.new (method_text (method_of (raw_method m)) ∷ []) result }
     ensures few { result ≤ 182 }
 {
-    let state = m.state;
-    if state == Method::DENIED {
-        return write_word(buf, b"m=denied");
+    match m.state {
+        Method::DENIED => write_word(buf, b"m=denied"),
+        Method::OPTIONAL => write_signed(buf, b"m=optional(", m),
+        Method::AVAIL => write_signed(buf, b"m=avail(", m),
+        _ => write_word(buf, b"m=unavail"),
     }
-    if state == Method::OPTIONAL {
-        return write_signed(buf, b"m=optional(", m);
-    }
-    if state == Method::AVAIL {
-        return write_signed(buf, b"m=avail(", m);
-    }
-    write_word(buf, b"m=unavail")
 }
 
 // The line of a representation (S25).
@@ -108,13 +93,11 @@ pub fn write_rep(buf: &mut [u8], rep: u8) -> usize
     ensures is { Lined buf.old buf.new (rep_text (rep_of rep) ∷ []) result }
     ensures few { result ≤ 17 }
 {
-    if rep == Head::REF {
-        return write_word(buf, b"rep=ref");
+    match rep {
+        Head::REF => write_word(buf, b"rep=ref"),
+        Head::W32 => write_word(buf, b"rep=w32"),
+        _ => write_word(buf, b"rep=w64"),
     }
-    if rep == Head::W32 {
-        return write_word(buf, b"rep=w32");
-    }
-    write_word(buf, b"rep=w64")
 }
 
 // The line of the own flag (S25).
@@ -123,9 +106,10 @@ pub fn write_own(buf: &mut [u8], own: u8) -> usize
     ensures few { result ≤ 17 }
 {
     if own == Head::OWN {
-        return write_word(buf, b"own=yes");
+        write_word(buf, b"own=yes")
+    } else {
+        write_word(buf, b"own=no")
     }
-    write_word(buf, b"own=no")
 }
 
 // What follows the first number of an `under=` line: the second, where there is one, and the end of the line.
@@ -134,9 +118,9 @@ fn put_second(buf: &mut [u8], x: Links) -> usize
     ensures few { result ≤ 37 }
 {
     if x.count == 2 {
-        return write_number(buf, b",", wide(x.second));
+        return write_number(buf, b",", usize::from(x.second));
     }
-    put_byte(buf, 10)
+    put_byte(buf, b'\n')
 }
 
 // The line of a category's broader ones (S24, W7).
@@ -144,8 +128,7 @@ pub fn write_under(buf: &mut [u8], x: Links) -> usize
     ensures is { Lined buf.old buf.new (under_text (links_of (raw_links x)) ∷ []) result }
     ensures few { result ≤ 73 }
 {
-    let a = put_number(buf, b"under=", wide(x.first));
-    let k = least(a, buf.len());
-    let c = put_second(&mut buf[k..], x);
-    a + c
+    let a = put_number(buf, b"under=", usize::from(x.first));
+    let k = a.min(buf.len());
+    a + put_second(&mut buf[k..], x)
 }

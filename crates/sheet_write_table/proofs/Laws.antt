@@ -1,7 +1,7 @@
 -- The lines of a type, by its record, and one method, type or category more behind those before.
 use mathlib.Core.Path.{◌≡◌, refl, sym, ap, ◌∙◌}
 use mathlib.Core.List.{List, [], ◌∷◌, ◌++◌, append_assoc, append-nil}
-use Prim.Native.Nat.{ℕ, zero, suc, ◌+◌, ◌≤◌}
+use Prim.Native.Nat.{ℕ, zero, suc, ◌+◌}
 use native.Mathlib.Nat.{zero-add}
 use native.Mathlib.Omega.{arith}
 use native.Mathlib.Numerals.{add-one}
@@ -95,7 +95,7 @@ under_next l i x e =
     ∙ each_last (λ k links. under_text links ∷ []) (broader_of l) i 1 1
     ∙ ap (λ z. under_lines l z) (sym (add-one i))
 
--- none yet, and all of them
+-- none yet
 pub methods-none : (b : List ℕ) (i : ℕ) → [] ≡ method_lines b i 0
 unfolding method_lines from each
 methods-none b i = refl
@@ -107,12 +107,3 @@ types-none b c = refl
 pub unders-none : (l : List ℕ) → [] ≡ under_lines l 0
 unfolding under_lines from each
 unders-none l = refl
-
-pub methods-all : (b : List ℕ) (i j n : ℕ) → j ≤ n → n ≤ j → method_lines b i j ≡ method_lines b i n
-methods-all b i j n p q = let e : j ≡ n = omega arith in ap (method_lines b i) e
-
-pub types-all : (b : List ℕ) (c : Counts) (i n : ℕ) → i ≤ n → n ≤ i → type_lines_to b c i ≡ type_lines_to b c n
-types-all b c i n p q = let e : i ≡ n = omega arith in ap (type_lines_to b c) e
-
-pub unders-all : (l : List ℕ) (i n : ℕ) → i ≤ n → n ≤ i → under_lines l i ≡ under_lines l n
-unders-all l i n p q = let e : i ≡ n = omega arith in ap (under_lines l) e

@@ -12,7 +12,6 @@ ghost use Rattle.spec_sheet.specs.Text.{number_text, rep_text, own_text, type_li
 ghost use Rattle.text_write.specs.Fill.{Filled, Lined};
 ghost use Rattle.sheet_write_table.specs.Parts.{type_in, method_lines, type_lines_to, under_lines, count_lines, front_lines, back_lines};
 
-use base_numbers::{least, wide};
 use sheet_write_line::{write_method, write_own, write_rep, write_under};
 use table_record::{Counts, Head, LINK_BYTES, TYPE_BYTES};
 use text_write::{write_number, write_word};
@@ -27,13 +26,9 @@ fn write_methods(buf: &mut [u8], b: &[u8; TYPE_BYTES], i: usize, methods: usize)
     ensures few { result ≤ 2912 }
 {
     let mut at: usize = 0;
-    let mut j: usize = 0;
-    while j < methods {
-        let m = table_record::get_method(b, i, j);
-        let k = least(at, buf.len());
-        let c = write_method(&mut buf[k..], m);
-        at += c;
-        j += 1;
+    for j in 0..methods {
+        let k = at.min(buf.len());
+        at += write_method(&mut buf[k..], table_record::get_method(b, i, j));
     }
     at
 }
@@ -46,12 +41,10 @@ fn write_head(buf: &mut [u8], i: usize, h: Head) -> usize
     ensures few { result ≤ 91 }
 {
     let a = write_number(buf, b"type=", i);
-    let k = least(a, buf.len());
-    let b = write_rep(&mut buf[k..], h.rep);
-    let d = a + b;
-    let j = least(d, buf.len());
-    let c = write_number(&mut buf[j..], b"cat=", wide(h.cat));
-    d + c
+    let j = a.min(buf.len());
+    let a = a + write_rep(&mut buf[j..], h.rep);
+    let k = a.min(buf.len());
+    a + write_number(&mut buf[k..], b"cat=", usize::from(h.cat))
 }
 
 // The other lines of a reference type (S25).
@@ -61,9 +54,8 @@ fn write_members(buf: &mut [u8], b: &[u8; TYPE_BYTES], i: usize, own: u8, method
     ensures few { result ≤ 2929 }
 {
     let a = write_own(buf, own);
-    let k = least(a, buf.len());
-    let d = write_methods(&mut buf[k..], b, i, methods);
-    a + d
+    let k = a.min(buf.len());
+    a + write_methods(&mut buf[k..], b, i, methods)
 }
 
 // The lines of type i; a number type has only the first three.
@@ -77,9 +69,8 @@ fn write_type(buf: &mut [u8], b: &[u8; TYPE_BYTES], c: Counts, i: usize) -> usiz
     if h.rep != Head::REF {
         return a;
     }
-    let k = least(a, buf.len());
-    let d = write_members(&mut buf[k..], b, i, h.own, c.methods);
-    a + d
+    let k = a.min(buf.len());
+    a + write_members(&mut buf[k..], b, i, h.own, c.methods)
 }
 
 // The sheet types, and no derived ones (W5).
@@ -88,14 +79,10 @@ fn write_types(buf: &mut [u8], b: &[u8; TYPE_BYTES], c: Counts) -> usize
     ensures is { Lined buf.old buf.new (type_lines_to b.now c c.sheet) result }
     ensures few { result ≤ 144960 }
 {
-    let n = c.sheet;
     let mut at: usize = 0;
-    let mut i: usize = 0;
-    while i < n {
-        let k = least(at, buf.len());
-        let d = write_type(&mut buf[k..], b, c, i);
-        at += d;
-        i += 1;
+    for i in 0..c.sheet {
+        let k = at.min(buf.len());
+        at += write_type(&mut buf[k..], b, c, i);
     }
     at
 }
@@ -107,13 +94,9 @@ fn write_unders(buf: &mut [u8], l: &[u8; LINK_BYTES], cats: usize) -> usize
     ensures few { result ≤ 2263 }
 {
     let mut at: usize = 0;
-    let mut i: usize = 0;
-    while i < cats {
-        let x = table_record::get_links(l, i + 1);
-        let k = least(at, buf.len());
-        let c = write_under(&mut buf[k..], x);
-        at += c;
-        i += 1;
+    for i in 0..cats {
+        let k = at.min(buf.len());
+        at += write_under(&mut buf[k..], table_record::get_links(l, i + 1));
     }
     at
 }
@@ -125,11 +108,11 @@ fn write_counts(buf: &mut [u8], c: Counts) -> usize
     ensures few { result ≤ 148 }
 {
     let a = write_number(buf, b"guide=", NEWEST_FORM);
-    let j = least(a, buf.len());
+    let j = a.min(buf.len());
     let a = a + write_number(&mut buf[j..], b"subjects=", c.subjects);
-    let k = least(a, buf.len());
+    let k = a.min(buf.len());
     let a = a + write_number(&mut buf[k..], b"methods=", c.methods);
-    let n = least(a, buf.len());
+    let n = a.min(buf.len());
     a + write_number(&mut buf[n..], b"cats=", c.cats)
 }
 
@@ -140,12 +123,10 @@ fn write_front(buf: &mut [u8], l: &[u8; LINK_BYTES], c: Counts) -> usize
     ensures few { result ≤ 2448 }
 {
     let a = write_counts(buf, c);
-    let k = least(a, buf.len());
-    let b = write_unders(&mut buf[k..], l, c.cats);
-    let d = a + b;
-    let j = least(d, buf.len());
-    let e = write_number(&mut buf[j..], b"types=", c.sheet);
-    d + e
+    let j = a.min(buf.len());
+    let a = a + write_unders(&mut buf[j..], l, c.cats);
+    let k = a.min(buf.len());
+    a + write_number(&mut buf[k..], b"types=", c.sheet)
 }
 
 // The types, and the last line.
@@ -155,9 +136,8 @@ fn write_back(buf: &mut [u8], b: &[u8; TYPE_BYTES], c: Counts) -> usize
     ensures few { result ≤ 144977 }
 {
     let a = write_types(buf, b, c);
-    let k = least(a, buf.len());
-    let d = write_word(&mut buf[k..], b"end=sheet");
-    a + d
+    let k = a.min(buf.len());
+    a + write_word(&mut buf[k..], b"end=sheet")
 }
 
 // The whole sheet.
@@ -166,7 +146,6 @@ pub fn put_sheet(buf: &mut [u8], b: &[u8; TYPE_BYTES], l: &[u8; LINK_BYTES], c: 
     ensures { Filled buf.old buf.new (text (table_of (raw_table b.now l.now c))) result }
 {
     let a = write_front(buf, l, c);
-    let k = least(a, buf.len());
-    let d = write_back(&mut buf[k..], b, c);
-    a + d
+    let k = a.min(buf.len());
+    a + write_back(&mut buf[k..], b, c)
 }

@@ -5,10 +5,5 @@ use Rattle.sheet_write_table.proofs.put_sheet.Goals as goal
 
 pub returns : goal.returns
 returns c =
-    let a' = c.args in
-    let pre = c.requires in
-    let write-front = c.write_front-a in
-    let least = c.least-k in
-    let write-back = c.write_back-d in
-    let a = a' in
-    sheet-is a.b.now a.l.now a.c (pre) (lines_rest write-front.ensures.is least.ensures.0 write-back.ensures.is)
+    let a = c.args in
+    sheet-is a.b.now a.l.now a.c c.requires (lines_rest c.write_front-a.ensures.is c.min-k.ensures c.write_back.ensures.is)
