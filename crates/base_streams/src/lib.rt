@@ -2,50 +2,24 @@
 // contract can say what is read or written; these say that what counts as read stands in the buffer.
 #![tactic(auto)]
 
-ghost use Rattle.std.specs.Prelude.{length};
-ghost use Rattle.base_streams.specs.Counted.{Counted, Came};
+ghost use Rattle.std.specs.Io.{ReadsAtMost};
 
+use std::io;
 use std::io::{Read, Stderr, Stdin, Stdout, Write};
 
-// What became of the whole input: so many bytes, or a read failed.
-#[derive(Clone, Copy)]
-pub enum Input {
-    Bytes(usize),
-    Failed,
-}
-
-// What became of one read.
-#[derive(Clone, Copy)]
-enum Got {
-    Bytes(usize),
-    End,
-    Failed,
-}
-
-fn read_once(stdin: &mut Stdin, buf: &mut [u8]) -> Got
-    ensures { Came result (length buf.old) }
-{
-    match stdin.read(buf) {
-        Ok(0) => Got::End,
-        Ok(n) => Got::Bytes(n),
-        Err(_) => Got::Failed,
-    }
-}
-
 // Reads until the buffer is full or the input ends.
-pub fn read_input(stdin: &mut Stdin, buf: &mut [u8]) -> Input
-    ensures { Counted result buf.new }
+pub fn read_input(stdin: &mut Stdin, buf: &mut [u8]) -> io::Result<usize>
+    ensures { ReadsAtMost result buf.new }
 {
     let mut done = 0;
     while done < buf.len() {
-        let got = read_once(stdin, &mut buf[done..]);
-        match got {
-            Got::Failed => return Input::Failed,
-            Got::End => return Input::Bytes(done),
-            Got::Bytes(n) => done += n,
+        let n = stdin.read(&mut buf[done..])?;
+        if n == 0 {
+            break;
         }
+        done += n;
     }
-    Input::Bytes(done)
+    Ok(done)
 }
 
 // Writes to standard output, or says on the error stream that it could not.
