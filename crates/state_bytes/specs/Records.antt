@@ -11,9 +11,9 @@ use Rattle.state_record.specs.declared.Place.{Place}
 use Rattle.state_record.specs.declared.Place.TheVariants.{Object, Adapter}
 use Rattle.state_record.specs.declared.PlaceRec.{PlaceRec}
 use Rattle.state_record.specs.declared.Call.{Call}
-use Rattle.state_record.specs.declared.Cells.{Cells}
-use Rattle.state_record.specs.declared.Places.{Places}
-use Rattle.state_record.specs.declared.Calls.{Calls}
+use Rattle.state_record.specs.Counted.{Cells}
+use Rattle.state_record.specs.Counted.{Places}
+use Rattle.state_record.specs.Counted.{Calls}
 use Rattle.state_record.specs.Whole.{Whole as State}
 use Rattle.state_record.specs.View.{cell_of, place_of, call_of, blank_cell, blank_place, blank_call}
 use Rattle.state_bytes.specs.Flat.{Flat, counts_in, cell_count, place_count, call_count, raw_cells, raw_places, raw_calls, cell_size, place_size, call_size}

@@ -19,7 +19,7 @@ use Rattle.table_check_links.specs.Parts.{each_from}
 use Rattle.state_record.specs.declared.Cell.{Cell}
 use Rattle.state_record.specs.declared.PlaceRec.{PlaceRec}
 use Rattle.state_record.specs.declared.Call.{Call}
-use Rattle.state_record.specs.View.{cell_of, place_of, call_of, blank_cell, blank_place, blank_call, calls_in, raw_state}
+use Rattle.state_record.specs.View.{seen, cell_of, place_of, call_of, blank_cell, blank_place, blank_call, calls_in, raw_state}
 use Rattle.state_check_records.specs.Parts.{cell_accepted, place_accepted, call_accepted, sizes_accepted}
 use Rattle.state_check.specs.Parts.{cells_accepted, places_accepted, calls_accepted}
 use Rattle.state_check.proofs.Laws.{accepted-is}
@@ -69,7 +69,7 @@ abbrev pub Called : List ℕ → ℕ → Callᵐ
 Called b j = call_of (call_from b j)
 
 pub calls_are : (b : List ℕ) (n : ℕ) → n ≤ max_calls → calls_in (calls_from b n) ≡ from n 0 (Called b)
-unfolding calls_in calls_from
+unfolding seen calls_from
 calls_are b n few = from-same (λ k. call_of (get_or (calls_from b n).list k blank_call)) (Called b) n 0 (λ j p q. ap call_of (call-found b n j (omega arith) (omega arith)))
 
 -- The parts of the check, in the order of the code; c are the counts that were read.

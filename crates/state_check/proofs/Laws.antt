@@ -26,9 +26,9 @@ use Rattle.table_check_links.proofs.Each.{under-and, all-each, every-each, each_
 use Rattle.table_check.proofs.Accepted.{accepted-limits}
 use Rattle.state_record.specs.declared.PlaceRec.{PlaceRec}
 use Rattle.state_record.specs.declared.Call.{Call}
-use Rattle.state_record.specs.declared.Calls.{Calls}
+use Rattle.state_record.specs.Counted.{Calls}
 use Rattle.state_record.specs.Whole.{Whole as State}
-use Rattle.state_record.specs.View.{cell_of, place_of, call_of, blank_cell, blank_place, blank_call, cells_in, places_in, calls_in, raw_state, system_in}
+use Rattle.state_record.specs.View.{seen, cell_of, place_of, call_of, blank_cell, blank_place, blank_call, cells_in, places_in, calls_in, raw_state, system_in}
 use Rattle.state_record.proofs.Laws.{cells-length, places-length, calls-length, system-is}
 use Rattle.state_check_records.specs.Parts.{cell_accepted, place_accepted, call_accepted, sizes_accepted}
 use Rattle.state_check_records.proofs.Laws.{class-is, ref-is}
@@ -65,7 +65,7 @@ module _ (s : State) (limits : Limits s.counts) where
 
   records-are : (all (cell_fits m) m.cells && (every (place_fits m) 0 m.places && (all (call_fits m) m.calls && callers_fit m.table.subjects m.calls)))
       ≡ records_accepted rs s.counts s.cells s.places s.calls
-  unfolding cells_in places_in calls_in cells_accepted places_accepted calls_accepted table_in table_of
+  unfolding seen cells_accepted places_accepted calls_accepted table_in table_of
   records-are =
       let f : ℕ → Cellᵐ = λ k. cell_of (get_or s.cells.list k blank_cell) in
       let g : ℕ → Placeᵐ = λ p. place_of (get_or s.places.list p blank_place).place in
@@ -124,6 +124,6 @@ sizes-are cells places calls e =
 
 -- callers are known where calls are accepted
 pub callers-known : (c : Counts) (cells : ℕ) (js : Calls) → calls_accepted c cells js ≡ true → CallersBelow c.subjects (calls_in js)
-unfolding calls_in calls_accepted
+unfolding seen calls_accepted
 callers-known c cells js e j l = ltb-true _ _ (first (ltb (get_or (calls_in js) j no_call).caller c.subjects) _
     (all-at (call_accepted c cells) no_call (calls_in js) (all-each (λ k. call_of (get_or js.list k blank_call)) (call_accepted c cells) js.count 0 ∙ e) j l))

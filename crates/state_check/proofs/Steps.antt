@@ -5,9 +5,9 @@ use Prim.Native.Nat.{ℕ}
 use lib.ListN.{get_or}
 use Rattle.table_record.specs.declared.Counts.{Counts}
 use Rattle.table_record.specs.Store.{types_in}
-use Rattle.state_record.specs.declared.Cells.{Cells}
-use Rattle.state_record.specs.declared.Places.{Places}
-use Rattle.state_record.specs.declared.Calls.{Calls}
+use Rattle.state_record.specs.Counted.{Cells}
+use Rattle.state_record.specs.Counted.{Places}
+use Rattle.state_record.specs.Counted.{Calls}
 use Rattle.state_record.specs.View.{cell_of, place_of, call_of, blank_cell, blank_place, blank_call}
 use Rattle.state_check_records.specs.Parts.{cell_accepted, place_accepted, call_accepted}
 

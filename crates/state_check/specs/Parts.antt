@@ -5,9 +5,9 @@ use Rattle.spec_model.specs.Requests.{Call as Callᵐ, no_call}
 use Rattle.spec_model.specs.Check.{RawType, callers_fit}
 use Rattle.table_record.specs.declared.Counts.{Counts}
 use Rattle.table_check_links.specs.Parts.{each_from}
-use Rattle.state_record.specs.declared.Cells.{Cells}
-use Rattle.state_record.specs.declared.Places.{Places}
-use Rattle.state_record.specs.declared.Calls.{Calls}
+use Rattle.state_record.specs.Counted.{Cells}
+use Rattle.state_record.specs.Counted.{Places}
+use Rattle.state_record.specs.Counted.{Calls}
 use Rattle.state_record.specs.View.{cell_of, place_of, call_of, blank_cell, blank_place, blank_call, calls_in}
 use Rattle.state_check_records.specs.Parts.{settled_as, cell_accepted, place_accepted, call_accepted}
 

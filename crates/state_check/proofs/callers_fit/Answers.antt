@@ -2,7 +2,7 @@ use mathlib.Core.Path.{◌≡◌, refl, sym, subst}
 use Prim.Native.Nat.{ℕ, ◌<◌}
 use native.Mathlib.Omega.{arith}
 use Rattle.spec_model.specs.Table.{max_subjects}
-use Rattle.state_record.specs.declared.Calls.{Calls}
+use Rattle.state_record.specs.Counted.{Calls}
 use Rattle.state_record.specs.View.{calls_in}
 use Rattle.state_record.proofs.Kept.{called, calls-from, ended}
 use Rattle.state_check.specs.Parts.{CallersBelow}
