@@ -3,13 +3,29 @@
 // counts. The rest of the buffer, lent to the next writer (F2), begins behind what was written: at the buffer's end, where the text was too long.
 #![tactic(auto)]
 
-ghost use Rattle.std.specs.Prelude.{◌≡◌, [], ◌∷◌, ◌+◌, ◌≤◌, ◌<◌, length};
+ghost use Rattle.std.specs.Prelude.{◌≡◌, [], ◌∷◌, ◌+◌, ◌≤◌, ◌<◌, length, take};
 ghost use Rattle.spec_sheet.specs.Numbers.{decimal};
 ghost use Rattle.spec_sheet.specs.Text.{number_text};
 ghost use Rattle.text_write.specs.Fill.{Filled, Lined};
 ghost use Rattle.text_write.specs.Written.{wrote_result, number_of, value_of};
 
 use base_numbers::refusal::Refusal;
+
+// What a program prints: the first `length` bytes of `text`. Kept: a buffer with its length, since memory is fixed (no heap).
+#[derive(Clone, Copy)]
+pub struct Printed<const N: usize> {
+    pub length: usize,
+    pub text: [u8; N],
+}
+
+impl<const N: usize> Printed<N> {
+    pub fn as_bytes(&self) -> &[u8]
+        requires { self.now.length ≤ length self.now.text }
+        ensures { result.now ≡ take self.now.length self.now.text }
+    {
+        &self.text[..self.length]
+    }
+}
 
 // What a C function returns for a text's length or its refusal: the refusal's number, or 0 with the length handed out (E12).
 pub fn wrote_code(w: Result<usize, Refusal>, length: &mut usize) -> usize
