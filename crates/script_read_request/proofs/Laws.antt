@@ -9,7 +9,7 @@ use native.Mathlib.Numerals.{add-one}
 use lib.Dec.{eqb, leb}
 use lib.IntN.{ℤ, pos, negsuc, ◌-ℤ◌}
 use lib.ListN.{length, get_or, set, take, drop, length-drop}
-use lib.Seq.{take_all, length-take-le, take-suc-set}
+use lib.Seq.{length-take-le, take-suc-set}
 use mir.Facts.{to_z-of_z}
 use mir.Syntax.{w64}
 use mir.Val.{to_z, SFits}
@@ -20,14 +20,12 @@ use Rattle.spec_model.proofs.Rules.{both}
 use Rattle.spec_model.specs.Coded.{by_code}
 use Rattle.spec_sheet.specs.Lines.{bytes, starts, same}
 use Rattle.spec_sheet.specs.Numbers.{Scan, fail, took, bind_scan, number}
-use Rattle.text_read.specs.View.{scan_by, ScanWithin}
-use Rattle.text_read.specs.declared.Number.{Number}
-use Rattle.text_read.specs.declared.Number.TheVariants.{Wrong as Wrongⁿ, Right as Rightⁿ}
+use Rattle.std.specs.Prelude.{Option as Maybe, Some, None}
 use Rattle.text_read.proofs.Laws.{from-here, at-end}
 use Rattle.script_read_request.specs.Asked.{half, positive, negative, integer, operand, operands, max_operands, leftover, request_by, word, request_line}
-use Rattle.script_read_request.specs.Read.{integer_by, IntegerWithin, count_fits, Reads}
-use Rattle.script_read_request.specs.declared.Integer.{Integer}
-use Rattle.script_read_request.specs.declared.Integer.TheVariants.{Wrong, Right}
+use Rattle.script_read_request.specs.Read.{integer_by, code_of, count_fits, Reads}
+use Rattle.script_read_request.specs.declared.Code.{Code}
+use Rattle.script_read_request.specs.declared.Code.TheVariants.{New, Move, Call, Answer}
 use Rattle.script_read_request.specs.declared.Asked.{Asked}
 
 -- ---- Signs
@@ -42,37 +40,24 @@ below (suc n) = ap (λ z. negsuc (suc z)) (omega arith)
 pub below-fits : (n : ℕ) → n < half → SFits w64 (negsuc n)
 below-fits n h = let z : n < 2 ^ 63 = omega arith in record { sfits = z }
 
--- t is a number scanned.
-module _ (t : Number) where
-  pub sign-wrong : (k : ℕ → List ℕ → Scan ℤ) → t ≡ Wrongⁿ → (l : List ℕ) → fail ≡ bind_scan (scan_by (λ n. n) l t) k
-  sign-wrong k e l = ap (λ z. bind_scan (scan_by (λ n. n) l z) k) (sym e)
+module _ (n : ℕ) (r : List ℕ) where
+  pub plus-past : half ≤ n → fail ≡ positive n r
+  plus-past h = ap (λ z. cond z (took (pos n) r) fail) (sym (le-ltb n half h))
 
-  module _ (n next : ℕ) (e : t ≡ Rightⁿ n next) where
-    pub sign-within : (size : ℕ) → ScanWithin size t → next ≤ size
-    sign-within size w = (subst (ScanWithin size) e w).0
+  pub plus-right : n < half → (v : ℤ) → v ≡ pos n → took v r ≡ positive n r
+  plus-right h v q = ap (λ z. took z r) q ∙ ap (λ z. cond z (took (pos n) r) fail) (sym (lt-ltb n half h))
 
-    by : (k : ℕ → List ℕ → Scan ℤ) (l : List ℕ) → k n (drop next l) ≡ bind_scan (scan_by (λ n. n) l t) k
-    by k l = ap (λ z. bind_scan (scan_by (λ n. n) l z) k) (sym e)
+  pub minus-zero : n ≡ 0 → fail ≡ negative n r
+  minus-zero h = ap (λ z. cond (z && leb n half) (took (negsuc (n - 1)) r) fail) (sym (lt-leb 1 n (omega arith)))
 
-    pub plus-past : half ≤ n → (l : List ℕ) → fail ≡ bind_scan (scan_by (λ n. n) l t) positive
-    plus-past h l = ap (λ z. cond z (took (pos n) (drop next l)) fail) (sym (le-ltb n half h)) ∙ by positive l
+  module _ (z : n ≡ 0 → ⊥) where
+    pub minus-past : half < n → fail ≡ negative n r
+    minus-past h =
+        let p : 1 ≤ n = omega arith in ap (λ z. cond z (took (negsuc (n - 1)) r) fail) (sym (ap (λ z. z && leb n half) (le-leb 1 n p) ∙ lt-leb n half h))
 
-    pub plus-right : n < half → (v : ℤ) → v ≡ pos n → (l : List ℕ) → took v (drop next l) ≡ bind_scan (scan_by (λ n. n) l t) positive
-    plus-right h v q l = ap (λ z. took z (drop next l)) q ∙ ap (λ z. cond z (took (pos n) (drop next l)) fail) (sym (lt-ltb n half h)) ∙ by positive l
-
-    pub minus-zero : n ≡ 0 → (l : List ℕ) → fail ≡ bind_scan (scan_by (λ n. n) l t) negative
-    minus-zero h l = ap (λ z. cond (z && leb n half) (took (negsuc (n - 1)) (drop next l)) fail) (sym (lt-leb 1 n (omega arith))) ∙ by negative l
-
-    pub minus-past : (n ≡ 0 → ⊥) → half < n → (l : List ℕ) → fail ≡ bind_scan (scan_by (λ n. n) l t) negative
-    minus-past z h l =
-        let p : 1 ≤ n = omega arith in
-        ap (λ z. cond z (took (negsuc (n - 1)) (drop next l)) fail) (sym (ap (λ z. z && leb n half) (le-leb 1 n p) ∙ lt-leb n half h)) ∙ by negative l
-
-    pub minus-right : (n ≡ 0 → ⊥) → n ≤ half → (v : ℤ) → v ≡ negsuc (n - 1) → (l : List ℕ) → took v (drop next l) ≡ bind_scan (scan_by (λ n. n) l t) negative
-    minus-right z h v q l =
-        let p : 1 ≤ n = omega arith in
-        ap (λ z. took z (drop next l)) q
-        ∙ ap (λ z. cond z (took (negsuc (n - 1)) (drop next l)) fail) (sym (both (le-leb 1 n p) (le-leb n half h))) ∙ by negative l
+    pub minus-right : n ≤ half → (v : ℤ) → v ≡ negsuc (n - 1) → took v r ≡ negative n r
+    minus-right h v q =
+        let p : 1 ≤ n = omega arith in ap (λ z. took z r) q ∙ ap (λ z. cond z (took (negsuc (n - 1)) r) fail) (sym (both (le-leb 1 n p) (le-leb n half h)))
 
 -- ---- Signed numbers and operands at a place of the line
 pub integer-none : (l : List ℕ) (at : ℕ) → at ≡ length l → fail ≡ integer (drop at l)
@@ -90,15 +75,13 @@ module _ (l : List ℕ) (at : ℕ) (h : at < length l) where
       let d = from-here l at h in
       sym (ap integer d ∙ ap (λ z. cond (eqb (get_or l at 0) 45) (bind_scan (number (drop (at + 1) l)) negative) (bind_scan (number z) positive)) (sym d))
 
-  pub integer-minus : (r : Integer) (s : Scan ℕ) → get_or l at 0 ≡ 45 → integer_by l r ≡ bind_scan s negative → s ≡ number (drop (at + 1) l) → integer_by l r ≡ integer (drop at l)
-  integer-minus r s e i q =
-      i ∙ ap (λ z. bind_scan z negative) q
-      ∙ ap (λ z. cond z (bind_scan (number (drop (at + 1) l)) negative) (bind_scan (number (drop at l)) positive)) (sym (eq-eqb (get_or l at 0) 45 e)) ∙ integer-here
+  pub integer-minus : get_or l at 0 ≡ 45 → bind_scan (number (drop (at + 1) l)) negative ≡ integer (drop at l)
+  integer-minus e =
+      ap (λ z. cond z (bind_scan (number (drop (at + 1) l)) negative) (bind_scan (number (drop at l)) positive)) (sym (eq-eqb (get_or l at 0) 45 e)) ∙ integer-here
 
-  pub integer-plus : (r : Integer) (s : Scan ℕ) → (get_or l at 0 ≡ 45 → ⊥) → integer_by l r ≡ bind_scan s positive → s ≡ number (drop at l) → integer_by l r ≡ integer (drop at l)
-  integer-plus r s e i q =
-      i ∙ ap (λ z. bind_scan z positive) q
-      ∙ ap (λ z. cond z (bind_scan (number (drop (at + 1) l)) negative) (bind_scan (number (drop at l)) positive)) (sym (ne_eqb (get_or l at 0) 45 e)) ∙ integer-here
+  pub integer-plus : (get_or l at 0 ≡ 45 → ⊥) → bind_scan (number (drop at l)) positive ≡ integer (drop at l)
+  integer-plus e =
+      ap (λ z. cond z (bind_scan (number (drop (at + 1) l)) negative) (bind_scan (number (drop at l)) positive)) (sym (ne_eqb (get_or l at 0) 45 e)) ∙ integer-here
 
   operand-here : cond (eqb (get_or l at 0) 32) (integer (drop (at + 1) l)) fail ≡ operand (drop at l)
   unfolding operand
@@ -122,38 +105,27 @@ module _ (l : List ℕ) (items : List ℤ) (count i : ℕ) (R : Rest) (inv : ope
   unfolding operands
   operands-many h = let e : max_operands - count ≡ 0 = omega arith in ap (λ z. operands z (take count items) (drop i l)) (sym e) ∙ inv
 
-  module _ (h : count < max_operands) (t : Integer) (is : integer_by l t ≡ operand (drop i l)) where
+  module _ (h : count < max_operands) (t : Maybe (ℤ × ℕ)) (is : integer_by l t ≡ operand (drop i l)) where
     operands_step : onward (max_operands - (count + 1)) (take count items) (drop i l) (integer_by l t) ≡ R
     unfolding operands
     operands_step =
         let e : max_operands - count ≡ suc (max_operands - (count + 1)) = omega arith in
         ap (onward (max_operands - (count + 1)) (take count items) (drop i l)) is ∙ ap (λ z. operands z (take count items) (drop i l)) (sym e) ∙ inv
 
-    pub operands_end : t ≡ Wrong → (take count items, drop i l) ≡ R
+    pub operands_end : t ≡ None → (take count items, drop i l) ≡ R
     operands_end e = ap (λ z. onward (max_operands - (count + 1)) (take count items) (drop i l) (integer_by l z)) (sym e) ∙ operands_step
 
-    pub operands-more : count < length items → (v : ℤ) (next : ℕ) → t ≡ Right v next → operands (max_operands - (count + 1)) (take (count + 1) (set items count v)) (drop next l) ≡ R
+    pub operands-more : count < length items → (v : ℤ) (next : ℕ) → t ≡ Some (v, next) → operands (max_operands - (count + 1)) (take (count + 1) (set items count v)) (drop next l) ≡ R
     operands-more k v next e =
         ap (λ z. operands (max_operands - (count + 1)) z (drop next l)) (ap (λ z. take z (set items count v)) (add-one count) ∙ take-suc-set items count v k)
         ∙ ap (λ z. onward (max_operands - (count + 1)) (take count items) (drop i l) (integer_by l z)) (sym e) ∙ operands_step
 
-pub integer-within : (size : ℕ) (t : Integer) (v : ℤ) (next : ℕ) → t ≡ Right v next → IntegerWithin size t → next ≤ size
-integer-within size t v next e h = subst (IntegerWithin size) e h
-
 -- ---- The line's end
-pub end-dash : (l : List ℕ) (at k count : ℕ) (r : Bool) → k ≡ 3 → count ≡ 2 → r ≡ same (bytes " -") (take (length l - at) (drop at l)) → (ws : List ℤ) → length ws ≡ count
-    → r ≡ same (leftover k ws) (drop at l)
-end-dash l at k count r e c q ws n =
-    let d : length (drop at l) ≤ length l - at = let e : length (drop at l) ≡ length l - at = length-drop at l in omega arith in
-    q ∙ ap (λ z. same (bytes " -") z) (take_all (length l - at) (drop at l) d)
-    ∙ ap (λ z. same (cond z (bytes " -") []) (drop at l)) (sym (both (eq-eqb k 3 e) (eq-eqb (length ws) 2 (n ∙ c))))
-
-module _ (l : List ℕ) (k count : ℕ) where
-  pub end-code : (k ≡ 3 → ⊥) → (ws : List ℤ) → same [] l ≡ same (leftover k ws) l
-  end-code e ws = ap (λ z. same (cond (z && eqb (length ws) 2) (bytes " -") []) l) (sym (ne_eqb k 3 e))
-
-  pub end-count : k ≡ 3 → (count ≡ 2 → ⊥) → (ws : List ℤ) → length ws ≡ count → same [] l ≡ same (leftover k ws) l
-  end-count e c ws n = ap (λ z. same (cond z (bytes " -") []) l) (sym (ap (λ z. z && eqb (length ws) 2) (eq-eqb k 3 e) ∙ ne_eqb (length ws) 2 (λ q. c (sym n ∙ q))))
+pub end_other : (l : List ℕ) (code : Code) (count : ℕ) → (code ≡ Answer → count ≡ 2 → ⊥) → (ws : List ℤ) → length ws ≡ count → same [] l ≡ same (leftover (code_of code) ws) l
+end_other l New count h ws n = refl
+end_other l Move count h ws n = refl
+end_other l Call count h ws n = refl
+end_other l Answer count h ws n = ap (λ z. same (cond z (bytes " -") []) l) (sym (ne_eqb (length ws) 2 (λ q. h refl (sym n ∙ q))))
 
 pub same-empty : (l : List ℕ) (at : ℕ) → at ≤ length l → eqb at (length l) ≡ same [] (drop at l)
 unfolding starts
@@ -181,27 +153,12 @@ counted (suc (suc zero)) ws = one-is _ (leb 3 (length ws))
 counted (suc (suc (suc zero))) ws = either_is _ _ (eqb (length ws) 2) (eqb (length ws) 3)
 counted (suc (suc (suc (suc k)))) ws = refl
 
--- The same by the code, as it is tested.
-module _ (k n : ℕ) where
-  pub fits-four : k ≡ 3 → n ≡ 2 → true ≡ count_fits k n
-  fits-four e c = ap (λ z. z || eqb n 3) (sym (eq-eqb n 2 c)) ∙ ap (λ z. count_fits z n) (sym e)
-
-  pub fits-three : k ≡ 3 → (n ≡ 2 → ⊥) → eqb n 3 ≡ count_fits k n
-  fits-three e c = ap (λ z. z || eqb n 3) (sym (ne_eqb n 2 c)) ∙ ap (λ z. count_fits z n) (sym e)
-
-pub fits-none : (k n : ℕ) → (k ≡ 0 → ⊥) → (k ≡ 1 → ⊥) → (k ≡ 2 → ⊥) → (k ≡ 3 → ⊥) → false ≡ count_fits k n
-fits-none zero n a b c d = absurd (a refl)
-fits-none (suc zero) n a b c d = absurd (b refl)
-fits-none (suc (suc zero)) n a b c d = absurd (c refl)
-fits-none (suc (suc (suc zero))) n a b c d = absurd (d refl)
-fits-none (suc (suc (suc (suc k)))) n a b c d = refl
-
-kept : (o : Option Request) → cond (not (is_none o)) o none ≡ o
-kept none = refl
-kept (some q) = refl
+none-is : (o : Option Request) → not (is_none o) ≡ false → none ≡ o
+none-is none h = refl
+none-is (some q) h = let e : ◌≡◌ {A = Bool} true false = h in cc
 
 -- What stands behind the word at `at`: the operands are the first `count` items, and the bytes behind them begin at `next`.
-module _ (l : List ℕ) (at k : ℕ) (items : List ℤ) (count next : ℕ) (is : (take count items, drop next l) ≡ operands max_operands [] (drop at l)) (few : count ≤ max_operands)
+module _ (l : List ℕ) (at : ℕ) (code : Code) (items : List ℤ) (count next : ℕ) (is : (take count items, drop next l) ≡ operands max_operands [] (drop at l)) (few : count ≤ max_operands)
     (size : length items ≡ max_operands) where
   abbrev ws : List ℤ
   ws = take count items
@@ -209,21 +166,31 @@ module _ (l : List ℕ) (at k : ℕ) (items : List ℤ) (count next : ℕ) (is :
   pub taken : length ws ≡ count
   taken = length-take-le count items (omega arith)
 
+  abbrev k : ℕ
+  k = code_of code
+
   by_word : cond (same (leftover k ws) (drop next l)) (by_code k ws) none ≡ request_by k (drop at l)
   by_word = ap (λ (z : Rest). cond (same (leftover k z.0) z.1) (by_code k z.0) none) is
 
-  pub reads : (right : Bool) → right ≡ (same (leftover k ws) (drop next l) && count_fits k count)
-      → Reads (request_by k (drop at l)) (record { right = right; code = k; count = count; items = items })
-  reads right e = subst (λ z. Reads z (record { right = right; code = k; count = count; items = items })) by_word (go (same (leftover k ws) (drop next l)) e)
+  abbrev a : Asked
+  a = record { code = code; count = count; items = items }
+
+  pub reads : (r : Maybe Asked) → r ≡ cond (same (leftover k ws) (drop next l) && count_fits k count) (Some a) None → Reads (request_by k (drop at l)) r
+  reads r e = subst (λ z. Reads z r) by_word (go (same (leftover k ws) (drop next l)) e)
     where
-      go : (b : Bool) → right ≡ (b && count_fits k count) → Reads (cond b (by_code k ws) none) (record { right = right; code = k; count = count; items = items })
-      go true e =
-          let f : right ≡ not (is_none (by_code k ws)) = e ∙ ap (count_fits k) (sym taken) ∙ sym (counted k ws) in
-          record { is = ap (λ z. cond z (by_code k ws) none) f ∙ kept (by_code k ws); right = f; count = few; items = size }
-      go false e = record { is = ap (λ z. cond z (by_code k ws) none) e; right = e; count = few; items = size }
+      fitting : not (is_none (by_code k ws)) ≡ count_fits k count
+      fitting = counted k ws ∙ ap (count_fits k) taken
+
+      by_count : (b : Bool) → count_fits k count ≡ b → Reads (by_code k ws) (cond b (Some a) None)
+      by_count true f = record { is = refl; some = sym (fitting ∙ f); within = (few, size) }
+      by_count false f = record { is = none-is (by_code k ws) (fitting ∙ f); some = sym (fitting ∙ f); within = tt }
+
+      go : (b : Bool) → r ≡ cond (b && count_fits k count) (Some a) None → Reads (cond b (by_code k ws) none) r
+      go true e = subst (Reads (by_code k ws)) (sym e) (by_count (count_fits k count) refl)
+      go false e = subst (Reads none) (sym e) (record { is = refl; some = refl; within = tt })
 
 -- Which word the line begins with.
-module _ (l : List ℕ) (a : Asked) where
+module _ (l : List ℕ) (a : Maybe Asked) where
   abbrev Line : Bool → Bool → Bool → Bool → Option Request
   Line n m c s = cond n (request_by 0 (drop 6 l)) (cond m (request_by 1 (drop 7 l)) (cond c (request_by 2 (drop 7 l)) (cond s (request_by 3 (drop 9 l)) none)))
 

@@ -1,17 +1,47 @@
--- A signed number at a place of a line: nothing there, a `-` first, or digits, one law for each case (P9).
-use Prim.Native.Nat.{◌<◌}
-use lib.ListN.{length}
+-- A signed number at a place of a line: nothing there, a `-` first, or digits (P9).
+use Rattle.std.proofs.Common.{◌≡◌, ◌<◌, ◌∙◌, ap, length, drop, None, arith, rules, w64}
+use mir.Facts.{to_z-of_z}
+use mir.Val.{SFits}
+use Rattle.spec_sheet.specs.Numbers.{bind_scan}
+use Rattle.script_read_request.specs.Asked.{positive, negative}
 use Rattle.script_read_request.proofs.Laws.{integer-none, integer-minus, integer-plus}
-use native.Mathlib.Omega.{arith}
 use Rattle.script_read_request.proofs.integer_at.Goals as goal
 
-pub returns-then-at-l : goal.returns-then-at-l
-returns-then-at-l c = record { is = integer-none _ _ c.if-at-l.true; within = tt }
+pub returns-then-at-l-clause-is : goal.returns-then-at-l-clause-is
+returns-then-at-l-clause-is c = integer-none _ _ c.if-at-l.true
 
-pub returns-then-l-at-eq45 : goal.returns-then-l-at-eq45
-returns-then-l-at-eq45 c =
-    let a = c.args in let n = c.number_at-t in let r = c.negated in let h : a.at < length a.l.now = omega arith in record { is = integer-minus _ _ h r.result _ c.if-l-at-eq45.true (r.ensures.is a.l.now) n.ensures.is; within = r.ensures.within _ n.ensures.within }
+pub returns-in_err-n-clause-is : goal.returns-in_err-n-clause-is
+returns-in_err-n-clause-is c =
+    let e : c.from_residual.result ≡ None = search rules in
+    let h : c.args.at < length c.args.l.now = omega arith in
+    rw e (ap (λ z. bind_scan z negative) c.in_err-n.ensures.is ∙ integer-minus _ _ h c.if-l-at-eq45.true)
 
-pub returns : goal.returns
-returns c =
-    let a = c.args in let n = c.number_at-t-2 in let r = c.unsigned in let h : a.at < length a.l.now = omega arith in record { is = integer-plus _ _ h r.result _ c.if-l-at-eq45.false (r.ensures.is a.l.now) n.ensures.is; within = r.ensures.within _ n.ensures.within }
+pub returns-in_err-v-clause-is : goal.returns-in_err-v-clause-is
+returns-in_err-v-clause-is c =
+    let e : c.from_residual-in_err-v.result ≡ None = search rules in
+    let h : c.args.at < length c.args.l.now = omega arith in
+    rw e (c.in_err-v.ensures (drop c.in_ok-n.next c.args.l.now) ∙ ap (λ z. bind_scan z negative) c.in_ok-n.ensures.is ∙ integer-minus _ _ h c.if-l-at-eq45.true)
+
+pub returns-then-l-at-eq45-clause-is : goal.returns-then-l-at-eq45-clause-is
+returns-then-l-at-eq45-clause-is c =
+    let z : SFits w64 c.in_ok-v.v = search rules in
+    let h : c.args.at < length c.args.l.now = omega arith in
+    rw (to_z-of_z z) (c.in_ok-v.ensures (drop c.in_ok-n.next c.args.l.now) ∙ ap (λ z. bind_scan z negative) c.in_ok-n.ensures.is ∙ integer-minus _ _ h c.if-l-at-eq45.true)
+
+pub returns-in_err-n-2-clause-is : goal.returns-in_err-n-2-clause-is
+returns-in_err-n-2-clause-is c =
+    let e : c.from_residual-in_err-n-2.result ≡ None = search rules in
+    let h : c.args.at < length c.args.l.now = omega arith in
+    rw e (ap (λ z. bind_scan z positive) c.in_err-n-2.ensures.is ∙ integer-plus _ _ h c.if-l-at-eq45.false)
+
+pub returns-in_err-v-2-clause-is : goal.returns-in_err-v-2-clause-is
+returns-in_err-v-2-clause-is c =
+    let e : c.from_residual-in_err-v-2.result ≡ None = search rules in
+    let h : c.args.at < length c.args.l.now = omega arith in
+    rw e (c.in_err-v-2.ensures (drop c.in_ok-n-2.next c.args.l.now) ∙ ap (λ z. bind_scan z positive) c.in_ok-n-2.ensures.is ∙ integer-plus _ _ h c.if-l-at-eq45.false)
+
+pub returns-clause-is : goal.returns-clause-is
+returns-clause-is c =
+    let z : SFits w64 c.in_ok-v-2.v = search rules in
+    let h : c.args.at < length c.args.l.now = omega arith in
+    rw (to_z-of_z z) (c.in_ok-v-2.ensures (drop c.in_ok-n-2.next c.args.l.now) ∙ ap (λ z. bind_scan z positive) c.in_ok-n-2.ensures.is ∙ integer-plus _ _ h c.if-l-at-eq45.false)
