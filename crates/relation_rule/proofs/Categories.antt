@@ -135,18 +135,3 @@ module _ (l : List ℕ) (c : Counts) (done : List Bool) (a x : ℕ) where
 
       pub next_one : (u : ℕ) → u ≡ r.first → get_or done u false ≡ false → (r.count ≡ 2 → ⊥) → false ≡ cat_next (broader_in l c) done a x
       next_one u f h n = (let k : false ≡ any (λ k. get_or done k false) (links_of r) = rw (ne_eqb r.count 2 n, ← f, h) in k) ∙ next-links
-
--- the links name categories below, of which there are 32 at most
-module _ (l : List ℕ) (c : Counts) (x u : ℕ) (h : Checked l c) (z : x ≡ 0 → ⊥) (i : x ≤ c.cats) (r : RawLinks) (e : r ≡ get_or (links_in l) x no_raw_links) where
-  descends : AllBelow x (links_of r)
-  descends = rw e (h.descends x (omega arith) i)
-
-  pub first_below : u ≡ r.first → u < suc max_categories
-  first_below f = let g : r.first < x = go (eqb r.count 2) descends in omega (arith, h.limits.cats)
-    where
-      go : (b : Bool) → AllBelow x (cond b (r.first ∷ r.second ∷ []) (r.first ∷ [])) → r.first < x
-      go true w = w.0
-      go false w = w.0
-
-  pub second_below : u ≡ r.second → r.count ≡ 2 → u < suc max_categories
-  second_below f n = let w : AllBelow x (r.first ∷ r.second ∷ []) = rw (eq-eqb r.count 2 n) at descends in let g = w.1.0 in omega (arith, h.limits.cats)

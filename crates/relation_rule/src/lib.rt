@@ -12,7 +12,6 @@ ghost use Rattle.table_record.specs.Limits.{Checked};
 ghost use Rattle.relation_states.specs.Asked.{relation_of};
 ghost use Rattle.relation_rule.specs.Parts.{exact, ordered, owned, rep_rule, head_owns, outer_heads, broader_in, cat_next};
 
-use base_numbers::wide;
 use relation_states::Relation;
 use table_record::{Counts, Head, LINK_BYTES};
 
@@ -27,28 +26,14 @@ fn category_next(
     requires { Checked l.now c × (x < suc max_categories) }
     ensures { result ≡ cat_next (broader_in l.now c) done.now a x }
 {
-    if a == 0 {
+    if a == 0 || a == x {
         return true;
     }
-    if a == x {
-        return true;
-    }
-    if x == 0 {
-        return false;
-    }
-    if c.cats < x {
+    if x == 0 || c.cats < x {
         return false;
     }
     let k = table_record::get_links(l, x);
-    let first = wide(k.first);
-    if done[first] {
-        return true;
-    }
-    if k.count == 2 {
-        let second = wide(k.second);
-        return done[second];
-    }
-    false
+    done[usize::from(k.first)] || (k.count == 2 && done[usize::from(k.second)])
 }
 
 // T7, category a ≤ b: where that is not plain, asked of each category below b, from 0 up, and then of b.
@@ -56,21 +41,15 @@ fn category_le(l: &[u8; LINK_BYTES], c: Counts, a: usize, b: usize) -> bool
     requires { Checked l.now c }
     ensures { (types : List ℕ) → result ≡ cat_le (table_in types l.now c) a b }
 {
-    if a == 0 {
-        return true;
-    }
-    if a == b {
+    if a == 0 || a == b {
         return true;
     }
     if c.cats < b {
         return false;
     }
     let mut done = [false; Counts::CATEGORIES + 1];
-    let mut x: usize = 0;
-    while x < b {
-        let r = category_next(l, &done, c, a, x);
-        done[x] = r;
-        x += 1;
+    for x in 0..b {
+        done[x] = category_next(l, &done, c, a, x);
     }
     category_next(l, &done, c, a, b)
 }
@@ -79,109 +58,69 @@ fn category_le(l: &[u8; LINK_BYTES], c: Counts, a: usize, b: usize) -> bool
 fn same_rep(x: u8, y: u8) -> bool
     ensures { result ≡ same_rep (rep_of x) (rep_of y) }
 {
-    if x == Head::REF {
-        return y == Head::REF;
+    match x {
+        Head::REF => y == Head::REF,
+        Head::W32 => y == Head::W32,
+        _ => Head::W64 <= y,
     }
-    if x == Head::W32 {
-        return y == Head::W32;
-    }
-    Head::W64 <= y
 }
 
 // Both ref or both numbers.
 fn same_sort(x: u8, y: u8) -> bool
     ensures { result ≡ same_sort (rep_of x) (rep_of y) }
 {
-    if x == Head::REF {
-        return y == Head::REF;
-    }
-    y != Head::REF
+    (x == Head::REF) == (y == Head::REF)
 }
 
 // Which relations ask for the same representation.
 fn asks_rep(k: Relation) -> bool
     ensures { result ≡ exact (relation_of k) }
 {
-    match k {
-        Relation::Subtype => true,
-        Relation::Conforms => true,
-        Relation::Strict => false,
-        Relation::Loose => false,
-        Relation::Free => false,
-    }
+    matches!(k, Relation::Subtype | Relation::Conforms)
 }
 
 // Which ask that the category of T ≤ that of S.
 fn asks_category(k: Relation) -> bool
     ensures { result ≡ ordered (relation_of k) }
 {
-    match k {
-        Relation::Subtype => true,
-        Relation::Conforms => true,
-        Relation::Strict => true,
-        Relation::Loose => false,
-        Relation::Free => false,
-    }
+    matches!(k, Relation::Subtype | Relation::Conforms | Relation::Strict)
 }
 
 // Which ask that T is own only if S is own.
 fn asks_own(k: Relation) -> bool
     ensures { result ≡ owned (relation_of k) }
 {
-    match k {
-        Relation::Subtype => true,
-        Relation::Conforms => false,
-        Relation::Strict => false,
-        Relation::Loose => false,
-        Relation::Free => false,
-    }
+    matches!(k, Relation::Subtype)
 }
 
 fn rep_rule(k: Relation, x: u8, y: u8) -> bool
     ensures { result ≡ rep_rule (relation_of k) (rep_of x) (rep_of y) }
 {
-    let asked = asks_rep(k);
-    if asked {
-        return same_rep(x, y);
+    if asks_rep(k) {
+        same_rep(x, y)
+    } else {
+        same_sort(x, y)
     }
-    same_sort(x, y)
 }
 
 fn category_rule(l: &[u8; LINK_BYTES], c: Counts, k: Relation, x: u8, y: u8) -> bool
     requires { Checked l.now c }
     ensures { (types : List ℕ) → result ≡ (ordered (relation_of k) ⇒ cat_le (table_in types l.now c) x y) }
 {
-    let asked = asks_category(k);
-    if asked {
-        let a = wide(x);
-        let b = wide(y);
-        return category_le(l, c, a, b);
-    }
-    true
+    !asks_category(k) || category_le(l, c, usize::from(x), usize::from(y))
 }
 
 // The own flag, which a number type has not.
 fn owns(x: Head) -> bool
     ensures { result ≡ head_owns x }
 {
-    if x.rep == Head::REF {
-        return x.own == Head::OWN;
-    }
-    false
+    x.rep == Head::REF && x.own == Head::OWN
 }
 
 fn own_rule(k: Relation, x: Head, y: Head) -> bool
     ensures { result ≡ (owned (relation_of k) ⇒ (head_owns x ⇒ head_owns y)) }
 {
-    let asked = asks_own(k);
-    if asked {
-        let mine = owns(x);
-        if mine {
-            return owns(y);
-        }
-        return true;
-    }
-    true
+    !asks_own(k) || !owns(x) || owns(y)
 }
 
 // What a relation asks of representation, category and own flag of T and S.
@@ -189,13 +128,5 @@ pub fn outer_rule(l: &[u8; LINK_BYTES], c: Counts, k: Relation, x: Head, y: Head
     requires { Checked l.now c }
     ensures { (types : List ℕ) → result ≡ outer_heads (relation_of k) (table_in types l.now c) x y }
 {
-    let alike = rep_rule(k, x.rep, y.rep);
-    if !alike {
-        return false;
-    }
-    let below = category_rule(l, c, k, x.cat, y.cat);
-    if !below {
-        return false;
-    }
-    own_rule(k, x, y)
+    rep_rule(k, x.rep, y.rep) && category_rule(l, c, k, x.cat, y.cat) && own_rule(k, x, y)
 }

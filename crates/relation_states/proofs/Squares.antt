@@ -1,14 +1,14 @@
 -- A square of yes and no says a state rule (R8 to R11) if it does at every two states, which is computed.
-use mathlib.Core.Path.{◌≡◌, refl, sym}
-use mathlib.Core.Bool.{Bool, true, false, So, beq}
+use mathlib.Core.Path.{◌≡◌}
+use mathlib.Core.Bool.{Bool, false, So, beq}
 use mathlib.Core.List.{List, []}
 use Prim.Native.Nat.{ℕ, ◌<◌}
 use lib.ListN.{get_or}
-use Rattle.spec_model.specs.Relations.{Relation, subtype, conforms, strict, loose, free, state_rule}
+use Rattle.spec_model.specs.Relations.{Relation, state_rule}
 use Rattle.spec_model.specs.Check.{state_of}
 use Rattle.spec_model.specs.Records.{state_code}
 use Rattle.spec_model.proofs.Tests.{beq-so}
-use Rattle.spec_model.proofs.States.{each, each_b, each₂}
+use Rattle.spec_model.proofs.States.{each_b, each₂}
 use Rattle.relation_states.specs.Squares.{Says}
 use Rattle.table_record.proofs.Codes.{state-back}
 
@@ -26,14 +26,3 @@ pub says_at : (k : Relation) (o : List (List Bool)) (i j a b : ℕ) → Says k o
     state_rule k (state_of a) (state_of b)
 unfolding Says
 says_at k o i j a b s p q e f = rw (← e, ← f) (s i j p q)
-
--- every relation lets a state stand with itself
-self-each : (k : Relation) → So (each_b λ x. state_rule k x x)
-self-each subtype = refl
-self-each conforms = refl
-self-each strict = refl
-self-each loose = refl
-self-each free = refl
-
-pub same_code : (k : Relation) (a b : ℕ) → a ≡ b → true ≡ state_rule k (state_of a) (state_of b)
-same_code k a b e = rw e (sym (each (λ x. state_rule k x x) (self-each k) (state_of b)))

@@ -9,8 +9,7 @@ ghost use Rattle.spec_model.specs.Check.{state_of};
 ghost use Rattle.relation_states.specs.Asked.{relation_of};
 ghost use Rattle.relation_states.specs.Squares.{Says};
 
-use base_numbers::wide;
-use table_record::permits;
+use table_record::{Method, permits};
 
 // The four relations, and subtype with own not compared (R12), which a crossing asks for (X6).
 #[derive(Clone, Copy)]
@@ -59,8 +58,7 @@ pub fn state_square(k: Relation) -> [[bool; 4]; 4]
     ensures { Says (relation_of k) result }
 {
     match k {
-        Relation::Subtype => STATE_ORDER,
-        Relation::Conforms => STATE_ORDER,
+        Relation::Subtype | Relation::Conforms => STATE_ORDER,
         Relation::Strict => AVAIL_WHERE_AVAIL,
         Relation::Loose => AVAIL_WHERE_PERMITTED,
         Relation::Free => ANY_STATES,
@@ -71,11 +69,7 @@ pub fn state_square(k: Relation) -> [[bool; 4]; 4]
 fn state_index(x: u8) -> usize
     ensures { (result < 4) × (state_of result ≡ state_of x) }
 {
-    let w = wide(x);
-    if w < 4 {
-        return w;
-    }
-    3
+    usize::from(x.min(Method::UNAVAIL))
 }
 
 // A comparison of two states by a square, which it takes by value (F3).
@@ -92,21 +86,12 @@ pub fn state_rule(square: &[[bool; 4]; 4], k: Relation, a: u8, b: u8) -> bool
     requires { Says (relation_of k) square.now }
     ensures { result ≡ state_rule (relation_of k) (state_of a) (state_of b) }
 {
-    if a == b {
-        return true;
-    }
-    let i = state_index(a);
-    let j = state_index(b);
-    states_compare(*square, i, j)
+    a == b || states_compare(*square, state_index(a), state_index(b))
 }
 
 // Whether both sides permit a method, by the codes of its states.
 pub fn both_permit(x: u8, y: u8) -> bool
     ensures { result ≡ (permit (state_of x) && permit (state_of y)) }
 {
-    let p = permits(x);
-    if p {
-        return permits(y);
-    }
-    false
+    permits(x) && permits(y)
 }

@@ -1,89 +1,45 @@
--- One law for each way in which it returns; the links fall, so both numbers are below 32.
+-- One law for each way in which it returns.
+use mathlib.Core.Path.{◌∙◌}
+use borrow.Author.Tests.{ne_eqb}
 use Rattle.table_record.specs.Store.{raw_links}
-use Rattle.relation_rule.proofs.Categories.{next-none, next-self, next-zero, next-out, next-first, next-second, next_one, first_below, second_below}
+use Rattle.relation_rule.proofs.Categories.{next-none, next-self, next-zero, next-out, next-first, next-second, next_one}
 use Rattle.relation_rule.proofs.category_next.Goals as goal
+use Rattle.relation_rule.proofs.category_next.Goals.{then-a-eq0-via-then-a-eq0, then-a-eq0-via-else-a-eq0+then-a-x, then-x-eq0-via-then-x-eq0, then-x-eq0-via-else-x-eq0+then-c-x}
 
 pub returns-then-a-eq0 : goal.returns-then-a-eq0
-returns-then-a-eq0 c = let a = c.args in next-none a.l.now a.c a.done.now a.a a.x c.if-a-eq0.true
-
-pub returns-then-a-x : goal.returns-then-a-x
-returns-then-a-x c = let a = c.args in next-self a.l.now a.c a.done.now a.a a.x c.if-a-x.true
+returns-then-a-eq0 c =
+    let a = c.args in
+    elim c.then-a-eq0.branch [
+      | then-a-eq0-via-then-a-eq0 w ↦ next-none a.l.now a.c a.done.now a.a a.x w.if-a-eq0.true
+      | then-a-eq0-via-else-a-eq0+then-a-x w ↦ next-self a.l.now a.c a.done.now a.a a.x w.if-a-x.true
+    ]
 
 pub returns-then-x-eq0 : goal.returns-then-x-eq0
 returns-then-x-eq0 c =
     let a = c.args in
-    let if1 = c.if-a-eq0 in
-    let if2 = c.if-a-x in
-    let if3 = c.if-x-eq0 in
-    next-zero a.l.now a.c a.done.now a.a a.x if1.false if2.false if3.true
+    elim c.then-x-eq0.branch [
+      | then-x-eq0-via-then-x-eq0 w ↦ next-zero a.l.now a.c a.done.now a.a a.x c.if-a-eq0.false c.if-a-x.false w.if-x-eq0.true
+      | then-x-eq0-via-else-x-eq0+then-c-x w ↦ next-out a.l.now a.c a.done.now a.a a.x c.if-a-eq0.false c.if-a-x.false w.if-c-x.true
+    ]
 
-pub returns-then-c-x : goal.returns-then-c-x
-returns-then-c-x c =
+pub returns-then-done-from : goal.returns-then-done-from
+returns-then-done-from c =
     let a = c.args in
-    let if1 = c.if-a-eq0 in
-    let if2 = c.if-a-x in
-    let if4 = c.if-c-x in
-    next-out a.l.now a.c a.done.now a.a a.x if1.false if2.false if4.true
-
-pub bounds-done-first : goal.bounds-done-first
-bounds-done-first c =
-    let a = c.args in
-    let wide = c.wide-first in
-    let pre = c.requires in
-    let if3 = c.if-x-eq0 in
-    let if4 = c.if-c-x in
-    let get-links = c.get_links-k in
-    first_below a.l.now a.c a.x wide.result pre.0 if3.false if4.false (raw_links get-links.result) get-links.ensures wide.ensures.0
-
-pub returns-then-done-first : goal.returns-then-done-first
-returns-then-done-first c =
-    let a = c.args in
-    let if1 = c.if-a-eq0 in
-    let if2 = c.if-a-x in
-    let if3 = c.if-x-eq0 in
-    let if4 = c.if-c-x in
-    let get-links = c.get_links-k in
-    let wide = c.wide-first in
-    let if5 = c.if-done-first in
-    next-first a.l.now a.c a.done.now a.a a.x if1.false if2.false if3.false if4.false (raw_links get-links.result) get-links.ensures wide.result
-    wide.ensures.0 if5.true
-
-pub bounds-done-second : goal.bounds-done-second
-bounds-done-second c =
-    let a = c.args in
-    let wide2 = c.wide-second in
-    let pre = c.requires in
-    let if3 = c.if-x-eq0 in
-    let if4 = c.if-c-x in
-    let get-links = c.get_links-k in
-    let if6 = c.if-k-eq2 in
-    second_below a.l.now a.c a.x wide2.result pre.0 if3.false if4.false (raw_links get-links.result) get-links.ensures wide2.ensures.0 if6.true
+    let k = c.get_links-k in
+    c.if-done-from.true ∙ next-first a.l.now a.c a.done.now a.a a.x c.if-a-eq0.false c.if-a-x.false c.if-x-eq0.false c.if-c-x.false (raw_links k.result) k.ensures c.from.result
+    c.from.ensures c.if-done-from.true
 
 pub returns-then-k-eq2 : goal.returns-then-k-eq2
 returns-then-k-eq2 c =
     let a = c.args in
-    let if1 = c.if-a-eq0 in
-    let if2 = c.if-a-x in
-    let if3 = c.if-x-eq0 in
-    let if4 = c.if-c-x in
-    let get-links = c.get_links-k in
-    let wide = c.wide-first in
-    let wide2 = c.wide-second in
-    let if5 = c.if-done-first in
-    let if6 = c.if-k-eq2 in
-    next-second a.l.now a.c a.done.now a.a a.x if1.false if2.false if3.false if4.false (raw_links get-links.result) get-links.ensures wide.result
-    wide2.result wide.ensures.0 wide2.ensures.0 if5.false if6.true
+    let k = c.get_links-k in
+    next-second a.l.now a.c a.done.now a.a a.x c.if-a-eq0.false c.if-a-x.false c.if-x-eq0.false c.if-c-x.false (raw_links k.result) k.ensures c.from.result
+    c.from-then-k-eq2.result c.from.ensures c.from-then-k-eq2.ensures c.if-done-from.false c.if-k-eq2.true
 
-pub returns : goal.returns
-returns c =
+pub returns-else-k-eq2 : goal.returns-else-k-eq2
+returns-else-k-eq2 c =
     let a = c.args in
-    let if1 = c.if-a-eq0 in
-    let if2 = c.if-a-x in
-    let if3 = c.if-x-eq0 in
-    let if4 = c.if-c-x in
-    let get-links = c.get_links-k in
-    let wide = c.wide-first in
-    let if5 = c.if-done-first in
-    let if6 = c.if-k-eq2 in
-    next_one a.l.now a.c a.done.now a.a a.x if1.false if2.false if3.false if4.false (raw_links get-links.result) get-links.ensures wide.result
-    wide.ensures.0 if5.false if6.false
+    let k = c.get_links-k in
+    ne_eqb k.result.count 2 c.if-k-eq2.false
+    ∙ next_one a.l.now a.c a.done.now a.a a.x c.if-a-eq0.false c.if-a-x.false c.if-x-eq0.false c.if-c-x.false (raw_links k.result) k.ensures c.from.result
+    c.from.ensures c.if-done-from.false c.if-k-eq2.false
