@@ -84,9 +84,6 @@ row_next pairs t s v e =
     ap (λ z. row_lines pairs t s ++ (code_line t s z ∷ [])) e ∙ ap (λ z. row_lines pairs t s ++ (f z ∷ [])) (sym (zero-add s)) ∙ sym (from_last f s 0)
     ∙ ap (row_lines pairs t) (sym (add-one s))
 
-pub row-all : (pairs : List ℕ) (t s n : ℕ) → s ≤ n → n ≤ s → row_lines pairs t s ≡ row_lines pairs t n
-row-all pairs t s n p q = let e : s ≡ n = omega arith in ap (row_lines pairs t) e
-
 flatten-last : (ls : List (List (List ℕ))) (l : List (List ℕ)) → flatten (ls ++ (l ∷ [])) ≡ flatten ls ++ l
 unfolding flatten
 flatten-last [] l = append-nil l
@@ -101,6 +98,3 @@ unfolding code_lines
 rows_next pairs n t =
     let f : ℕ → List (List ℕ) = λ t. row_lines pairs t n in
     ap (λ z. code_lines pairs n t ++ f z) (sym (zero-add t)) ∙ sym (flatten-last (from t 0 f) (f (0 + t))) ∙ ap flatten (sym (from_last f t 0)) ∙ ap (code_lines pairs n) (sym (add-one t))
-
-pub rows_all : (pairs : List ℕ) (n t : ℕ) → t ≤ n → n ≤ t → code_lines pairs n t ≡ code_lines pairs n n
-rows_all pairs n t p q = let e : t ≡ n = omega arith in ap (code_lines pairs n) e

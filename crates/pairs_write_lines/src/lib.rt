@@ -6,7 +6,6 @@ ghost use Rattle.text_write.specs.Fill.{Filled, Lined};
 ghost use Rattle.pairs_write_lines.specs.Parts.{comparison_text, code_line, row_lines, code_lines};
 ghost use Rattle.spec_model.specs.Table.{max_sheet_types};
 
-use base_numbers::{least, wide};
 use relation_compare::PAIR_BYTES;
 use table_record::Counts;
 use text_write::{put_decimal, put_number, write_number};
@@ -17,11 +16,11 @@ fn put_comparison(buf: &mut [u8], code: usize) -> usize
     ensures few { result ≤ 145 }
 {
     let a = put_number(buf, b" ", code % 2);
-    let i = least(a, buf.len());
+    let i = a.min(buf.len());
     let a = a + put_number(&mut buf[i..], b" ", code / 2 % 2);
-    let j = least(a, buf.len());
+    let j = a.min(buf.len());
     let a = a + put_number(&mut buf[j..], b" ", code / 4 % 2);
-    let k = least(a, buf.len());
+    let k = a.min(buf.len());
     a + write_number(&mut buf[k..], b" ", code / 8 % 2)
 }
 
@@ -32,9 +31,9 @@ fn pair_line(buf: &mut [u8], t: usize, s: usize, code: usize) -> usize
     ensures few { result ≤ 14 }
 {
     let a = put_decimal(buf, t);
-    let j = least(a, buf.len());
+    let j = a.min(buf.len());
     let a = a + put_number(&mut buf[j..], b" ", s);
-    let k = least(a, buf.len());
+    let k = a.min(buf.len());
     a + put_comparison(&mut buf[k..], code)
 }
 
@@ -45,13 +44,10 @@ fn row_lines(buf: &mut [u8], pairs: &[u8; PAIR_BYTES], t: usize, n: usize) -> us
     ensures few { result ≤ 672 }
 {
     let mut at: usize = 0;
-    let mut s: usize = 0;
-    while s < n {
-        let code = wide(pairs[t * Counts::SHEET_TYPES + s]);
-        let k = least(at, buf.len());
-        let more = pair_line(&mut buf[k..], t, s, code);
-        at += more;
-        s += 1;
+    for s in 0..n {
+        let code = usize::from(pairs[t * Counts::SHEET_TYPES + s]);
+        let k = at.min(buf.len());
+        at += pair_line(&mut buf[k..], t, s, code);
     }
     at
 }
@@ -63,12 +59,9 @@ pub fn pair_lines(buf: &mut [u8], pairs: &[u8; PAIR_BYTES], n: usize) -> usize
     ensures few { result ≤ 32256 }
 {
     let mut at: usize = 0;
-    let mut t: usize = 0;
-    while t < n {
-        let k = least(at, buf.len());
-        let more = row_lines(&mut buf[k..], pairs, t, n);
-        at += more;
-        t += 1;
+    for t in 0..n {
+        let k = at.min(buf.len());
+        at += row_lines(&mut buf[k..], pairs, t, n);
     }
     at
 }

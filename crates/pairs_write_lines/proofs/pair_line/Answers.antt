@@ -7,17 +7,6 @@ use Rattle.pairs_write_lines.proofs.pair_line.Goals as goal
 pub returns : goal.returns
 returns c =
     let a = c.args in
-    let f =
-    fill_is (line-is a.t a.s a.code)
-    (fill-rest
-    (fill-rest c.put_decimal-a.ensures.is
-    c.least-j.ensures.0 c.put_number.ensures.is)
-    c.least-k.ensures.0 c.put_comparison.ensures.is) in record {
-      is = ended f;
-      few = omega (
-        arith,
-        f.said,
-        line-short a.t a.s a.code c.requires.0
-            c.requires.1,
-      );
-    }
+    let two = fill-rest c.put_decimal-a.ensures.is c.min-j.ensures c.put_number.ensures.is in
+    let f = fill_is (line-is a.t a.s a.code) (fill-rest two c.min-k.ensures c.put_comparison.ensures.is) in
+    record { is = ended f; few = omega (arith, f.said, line-short a.t a.s a.code c.requires.0 c.requires.1) }
