@@ -24,13 +24,17 @@ use Rattle.table_record.specs.Limits.{Checked}
 use Rattle.table_record.proofs.Lists.{lt-or-ge}
 use Rattle.table_record.proofs.Tables.{size_is, type-is}
 use Rattle.table_record.specs.Layout.{types_size}
-use Rattle.derive_record.specs.declared.Derived.{Derived}
-use Rattle.derive_record.specs.declared.Derived.TheVariants.{Full, At}
+use Rattle.std.specs.Prelude.{Some, None, Result, Ok, Err, IfOk}
+use Rattle.std.proofs.lemmas.Result.{IfOk-weaker}
+use Rattle.base_numbers.specs.declared.refusal.Refusal.{Refusal}
+use Rattle.base_numbers.specs.declared.refusal.Refusal.TheVariants.{NotStrict, TypesFull, PlacesFull}
+use Rattle.base_numbers.specs.Refusal.{number_of}
+use Rattle.derive_record.specs.Begins.{Derived}
 use Rattle.derive_sub_sup.specs.Link.{derivation_in, Kept, ExactAt, ExactTo, Sized, Derives}
 use Rattle.derive_closed.specs.Numbers.{Alike}
 use Rattle.derive_sub_sup.specs.Link.{Leaves as Left, Ready as Derivable}
 use Rattle.derive_sub_sup.proofs.Bytes.{exact_same}
-use Rattle.state_record.specs.declared.Places.{Places}
+use Rattle.state_record.specs.Counted.{Places}
 use Rattle.state_record.specs.declared.Place.TheVariants.{Adapter}
 use Rattle.state_record.specs.View.{places_in, blank_place}
 use Rattle.state_record.specs.Sound.{Descending}
@@ -38,7 +42,7 @@ use Rattle.state_record.proofs.Laws.{places-length}
 use Rattle.state_record.proofs.Kept.{descending-more, typed-more}
 use Rattle.crossing_meet.specs.declared.Landing.TheVariants as landing
 use Rattle.crossing_meet.specs.declared.Crossed.{Crossed}
-use Rattle.crossing_meet.specs.Crossed.{Ready, reference, reference_of, crossed_of, Grew, Came, Leaves, stopped, landed}
+use Rattle.crossing_meet.specs.Crossed.{Ready, reference, reference_of, crossed_of, Grew, Came, Leaves, landed}
 
 -- R meets the type of place p.
 module _ (t : Table) (ps : List Place) (to r p v : ℕ) (is : v ≡ place_type (place_at ps p)) where
@@ -94,10 +98,10 @@ grew-on c m n b b' g k h = record {
   go i p q (inl l) = let r = g.room in exact_same c b b' i (omega arith) (k i l) (g.exact i p l)
   go i p q (inr l) = h.exact i l q
 
-derives-sized : (n t s : ℕ) {b b' : List ℕ} {d : Derived} {i m : ℕ} → d ≡ At i m → Left n t s b b' d → Sized n t s (At i m)
+derives-sized : (n t s : ℕ) {b b' : List ℕ} {d : Derived} {i m : ℕ} → d ≡ Some (i, m) → Left n t s b b' d → Sized n t s (Some (i, m))
 derives-sized n t s e k = subst (Sized n t s) e k.sized
 
-pub derives-grew : (c : Counts) (t s : ℕ) {k : Kind} {b b' : List ℕ} {d : Derived} {i m : ℕ} → d ≡ At i m → Derives k c t s b b' d → Grew c m b'
+pub derives-grew : (c : Counts) (t s : ℕ) {k : Kind} {b b' : List ℕ} {d : Derived} {i m : ℕ} → d ≡ Some (i, m) → Derives k c t s b b' d → Grew c m b'
 derives-grew c t s {b' = b'} e g = let z = derives-sized c.types t s e g.keeps in record { more = z.0; room = z.1; exact = subst (ExactTo c c.types b') e g.exact }
 
 pub differ : {m n : ℕ} → (m ≡ n → ⊥) → eqb m n ≡ false
@@ -110,23 +114,10 @@ equal {m} {n} h = eq-eqb m n h
 pub ready_on : (l : List ℕ) (c : Counts) (n : ℕ) (b b' : List ℕ) → Ready l c b → Grew c n b' → length b' ≡ types_size → Ready l (with_count c n) b'
 ready_on l c n b b' h g long = record { checked = grown-checked l c n h.checked g.more g.room; long = long }
 
--- ---- What came of it.
-abbrev Comes : ℕ → Res Reference → Bool → Res Reference
-Comes e f z = elim z [ false ↦ refuse e | true ↦ f ]
-
-pub refused-is : (b l : List ℕ) (c : Counts) (x : Crossed) → (x.refusal ≡ 0 → ⊥) → crossed_of b l c x ≡ refuse x.refusal
-refused-is b l c x h = ap (Comes x.refusal (ok (reference_of b l c x))) (differ h)
-
-pub came-is : (b l : List ℕ) (c : Counts) (x : Crossed) → x.refusal ≡ 0 → crossed_of b l c x ≡ ok (reference_of b l c x)
-came-is b l c x h = ap (Comes x.refusal (ok (reference_of b l c x))) (equal h)
-
--- a refusal with the number e, of what the model refuses with it
-pub stops : (b b' l : List ℕ) (c : Counts) (ps : Places) (s e : ℕ) → 0 < e → {m : Res Reference} → refuse e ≡ m → length b' ≡ types_size → Kept c.types b b' →
-    (q : Crossed) → q ≡ stopped ps e → (crossed_of b' l c q ≡ m) × Leaves c ps s b b' q
-stops b b' l c ps s e low {m} is long kept q z = subst (λ (x : Crossed). (crossed_of b' l c x ≡ m) × Leaves c ps s b b' x) (sym z) (
-  refused-is b' l c (stopped ps e) (λ y. omega (arith, y, low)) ∙ is,
-  record { long = long; kept = kept; came = λ y. absurd (omega (arith, y, low)) },
-)
+-- a refusal, of what the model refuses with its number
+pub stops : (b b' l : List ℕ) (c : Counts) (ps : Places) (s : ℕ) (e : Refusal) → {m : Res Reference} → refuse (number_of e) ≡ m → length b' ≡ types_size → Kept c.types b b'
+    → (crossed_of b' l c (Err e) ≡ m) × Leaves c ps s b b' (Err e)
+stops b b' l c ps s e is long kept = (is, record { long = long; kept = kept; came = tt })
 
 -- the reference leads to a place that stands
 pub stands : (c : Counts) (ps : Places) (s to p n : ℕ) (b : List ℕ) → Descending ps → p < ps.count → Grew c n b → (s < c.types → to < n) → Came c ps s b (landed ps to (landing.Stands p) n)
@@ -140,17 +131,17 @@ stands c ps s to p n b desc place g ty = record {
 }
 
 -- what is known behind two crossings, or behind what a derivation left and a crossing
-module _ (c : Counts) (ps : Places) (s : ℕ) (b b₁ : List ℕ) (x : Crossed) (h : Leaves c ps s b b₁ x) (z : x.refusal ≡ 0) where
+module _ (c : Counts) (ps : Places) (s : ℕ) (b b₁ : List ℕ) (x : Crossed) (h : Leaves c ps s b b₁ (Ok x)) where
   came : Came c ps s b₁ x
-  came = h.came z
+  came = h.came
 
-  pub leaves-on : (b₂ : List ℕ) (q : Crossed) → Leaves (with_count c x.types) x.places x.ty b₁ b₂ q → Leaves c ps s b b₂ q
+  pub leaves-on : (b₂ : List ℕ) (q : Result Crossed Refusal) → Leaves (with_count c x.types) x.places x.ty b₁ b₂ q → Leaves c ps s b b₂ q
   leaves-on b₂ q k = record {
     long = k.long;
     kept = λ j y. k.kept j (let u = came.types.more in omega arith) ∙ h.kept j y;
-    came = λ y. let m = k.came y in record {
+    came = IfOk-weaker q (λ y. Came (with_count c x.types) x.places x.ty b₂ y) (λ y. Came c ps s b₂ y) (λ y m. record {
       ty = λ g. m.ty (came.ty g);
-      types = grew-on c x.types q.types b₁ b₂ came.types k.kept m.types;
+      types = grew-on c x.types y.types b₁ b₂ came.types k.kept m.types;
       descending = m.descending;
       place = m.place;
       typed = λ t. m.typed (came.typed t);
@@ -158,7 +149,7 @@ module _ (c : Counts) (ps : Places) (s : ℕ) (b b₁ : List ℕ) (x : Crossed) 
         more = let u = came.before.more in let v = m.before.more in omega arith;
         same = λ j g. m.before.same j (let u = came.before.more in omega arith) ∙ came.before.same j g;
       };
-    };
+    }) k.came;
   }
 
 -- what a derivation asks, of two types that are related
@@ -175,18 +166,18 @@ module _ (b l : List ℕ) (c : Counts) (h : Ready l c b) (ps : Places) (desc : D
   abbrev U : Table
   U = table_in b l c
 
-  abbrev Meets-as : List ℕ → Crossed → Type 0
+  abbrev Meets-as : List ℕ → Result Crossed Refusal → Type 0
   Meets-as b' q = (crossed_of b' l c q ≡ adapt U (places_in ps) to r p) × Leaves c ps to b b' q
 
-  pub meets-passes : true ≡ related conforms U r v → (q : Crossed) → q ≡ landed ps to (landing.Stands p) c.types → Meets-as b q
-  meets-passes e q z = subst (Meets-as b) (sym z) (
+  pub meets-passes : true ≡ related conforms U r v → (q : Crossed) → q ≡ landed ps to (landing.Stands p) c.types → Meets-as b (Ok q)
+  meets-passes e q z = subst (λ (x : Crossed). Meets-as b (Ok x)) (sym z) (
     meet-passes U (places_in ps) to r p v is (sym e),
-    record { long = h.long; kept = same_kept c.types b; came = λ _. stands c ps to to p c.types b desc place (none-new c b h.checked.limits.types) (λ k. k) },
+    record { long = h.long; kept = same_kept c.types b; came = stands c ps to to p c.types b desc place (none-new c b h.checked.limits.types) (λ k. k) },
   )
 
   module _ (less : false ≡ related conforms U r v) where
-    pub meets-not-strict : false ≡ related strict U r v → (q : Crossed) → q ≡ stopped ps not_strict → Meets-as b q
-    meets-not-strict e = stops b b l c ps to not_strict (omega arith) (meet-not-strict U (places_in ps) to r p v is (sym less) (sym e)) h.long (same_kept c.types b)
+    pub meets-not-strict : false ≡ related strict U r v → Meets-as b (Err NotStrict)
+    meets-not-strict e = stops b b l c ps to NotStrict (meet-not-strict U (places_in ps) to r p v is (sym less) (sym e)) h.long (same_kept c.types b)
 
     module _ (met : true ≡ related strict U r v) where
       meets-free : So (related free U r v)
@@ -211,10 +202,10 @@ module _ (b l : List ℕ) (c : Counts) (h : Ready l c b) (ps : Places) (desc : D
         gives : (x : Derived) → d ≡ x → derivation_in b' l c x ≡ derived U closed r v
         gives x e = sym (ap (derivation_in b' l c) e) ∙ g.is l
 
-        pub meets-types-full : d ≡ Full → (q : Crossed) → q ≡ stopped ps types_full → Meets-as b' q
-        meets-types-full e = stops b b' l c ps to types_full (omega arith) (meet-types-full U (places_in ps) to r p v is (sym less) (sym met) (gives Full e)) g.keeps.long g.keeps.kept
+        pub meets-types-full : d ≡ None → Meets-as b' (Err TypesFull)
+        meets-types-full e = stops b b' l c ps to TypesFull (meet-types-full U (places_in ps) to r p v is (sym less) (sym met) (gives None e)) g.keeps.long g.keeps.kept
 
-        module _ (i m : ℕ) (e : d ≡ At i m) where
+        module _ (i m : ℕ) (e : d ≡ Some (i, m)) where
           closed-low : i < m
           closed-low =
               let z = derives-sized c.types r v e g.keeps in let q = closable.1 in let u = z.0 in
@@ -223,9 +214,9 @@ module _ (b l : List ℕ) (c : Counts) (h : Ready l c b) (ps : Places) (desc : D
           pub closed-byte : i < 256
           closed-byte = let z = derives-sized c.types r v e g.keeps in let w = closed-low in let u = z.1 in omega arith
 
-          pub meets-places-full : max_places ≤ ps.count → (q : Crossed) → q ≡ stopped ps places_full → Meets-as b' q
-          meets-places-full f = stops b b' l c ps to places_full (omega arith)
-              (meet-places-full U (places_in ps) to r p v is (sym less) (sym met) (table_in b' l (with_count c m)) i (gives (At i m) e)
+          pub meets-places-full : max_places ≤ ps.count → Meets-as b' (Err PlacesFull)
+          meets-places-full f = stops b b' l c ps to PlacesFull
+              (meet-places-full U (places_in ps) to r p v is (sym less) (sym met) (table_in b' l (with_count c m)) i (gives (Some (i, m)) e)
               (ap (λ (n : ℕ). ltb n max_places) (places-length ps) ∙ le-ltb ps.count max_places f))
               g.keeps.long g.keeps.kept
 
@@ -234,17 +225,17 @@ module _ (b l : List ℕ) (c : Counts) (h : Ready l c b) (ps : Places) (desc : D
             abbrev New : Crossed
             New = landed ps to (landing.Adapter (record { place = Adapter x y })) m
 
-            adapts : places_in New.places ≡ places_in ps ++ (adapter x y ∷ []) → Meets-as b' New
+            adapts : places_in New.places ≡ places_in ps ++ (adapter x y ∷ []) → Meets-as b' (Ok New)
             adapts are = (
               ap (λ (k : List Place). ok (reference (table_in b' l (with_count c m)) k to ps.count)) (are ∙ ap (λ (k : ℕ). places_in ps ++ (adapter k y ∷ [])) ex
                   ∙ ap (λ (k : ℕ). places_in ps ++ (adapter p k ∷ [])) ey)
                   ∙ ap (λ (k : ℕ). ok (reference (table_in b' l (with_count c m)) (places_in ps ++ (adapter p i ∷ [])) to k)) (sym (places-length ps))
-                  ∙ meet-adapts U (places_in ps) to r p v is (sym less) (sym met) (table_in b' l (with_count c m)) i (gives (At i m) e)
+                  ∙ meet-adapts U (places_in ps) to r p v is (sym less) (sym met) (table_in b' l (with_count c m)) i (gives (Some (i, m)) e)
                   (ap (λ (n : ℕ). ltb n max_places) (places-length ps) ∙ lt-ltb ps.count max_places f),
               record {
                 long = g.keeps.long;
                 kept = g.keeps.kept;
-                came = λ _. let w = derives-grew c r v e g in record {
+                came = let w = derives-grew c r v e g in record {
                   ty = λ k. let u = w.more in omega arith;
                   types = w;
                   descending = descending-more ps New.places (adapter x y) refl are desc f (λ _. omega (arith, ex, place));
@@ -255,5 +246,5 @@ module _ (b l : List ℕ) (c : Counts) (h : Ready l c b) (ps : Places) (desc : D
               },
             )
 
-            pub meets-adapts : (q : Crossed) → (q ≡ New) × (places_in q.places ≡ places_in ps ++ (adapter x y ∷ [])) → Meets-as b' q
-            meets-adapts q k = subst (Meets-as b') (sym k.0) (adapts (sym (ap (λ (z : Crossed). places_in z.places) k.0) ∙ k.1))
+            pub meets-adapts : (q : Crossed) → (q ≡ New) × (places_in q.places ≡ places_in ps ++ (adapter x y ∷ [])) → Meets-as b' (Ok q)
+            meets-adapts q k = subst (λ (z : Crossed). Meets-as b' (Ok z)) (sym k.0) (adapts (sym (ap (λ (z : Crossed). places_in z.places) k.0) ∙ k.1))

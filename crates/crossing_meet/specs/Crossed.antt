@@ -1,6 +1,8 @@
 -- What a crossing asks, what its answer means in the words of the model, and what it leaves of the bytes.
-use Rattle.std.specs.Prelude.{◌≡◌, true, false, List, [], ◌∷◌, ◌++◌, ℕ, ◌≤◌, ◌<◌, eqb, length, get_or}
-use Rattle.spec_model.specs.Basics.{Res, refuse, ok}
+use Rattle.std.specs.Prelude.{◌≡◌, List, [], ◌∷◌, ◌++◌, ℕ, ◌≤◌, ◌<◌, length, get_or, Result, IfOk}
+use Rattle.spec_model.specs.Basics.{Res}
+use Rattle.base_numbers.specs.declared.refusal.Refusal.{Refusal}
+use Rattle.base_numbers.specs.Refusal.{res_by}
 use Rattle.spec_model.specs.Table.{Table, max_types}
 use Rattle.spec_model.specs.Crossing.{Reference, max_places}
 use Rattle.spec_model.specs.Crossing.{Place as Placeᵐ}
@@ -9,7 +11,7 @@ use Rattle.table_record.specs.Store.{table_in, with_count}
 use Rattle.table_record.specs.Limits.{Checked}
 use Rattle.table_record.specs.Layout.{types_size}
 use Rattle.derive_sub_sup.specs.Link.{Kept, Exact}
-use Rattle.state_record.specs.declared.Places.{Places}
+use Rattle.state_record.specs.Counted.{Places}
 use Rattle.state_record.specs.View.{places_in, place_of, place_added, blank_place}
 use Rattle.state_record.specs.Sound.{Descending, Typed}
 use Rattle.crossing_meet.specs.declared.Landing.{Landing}
@@ -29,20 +31,17 @@ pub record PlaceKnown (ps : Places) (p : ℕ) : Type 0 where
 abbrev pub reference : Table → List Placeᵐ → ℕ → ℕ → Reference
 reference t ps s p = record { table = t; places = ps; type = s; place = p }
 
--- What came of it: its refusal, or the reference as it has become, with the table of the bytes left.
+-- What came of it: the reference as it has become, with the table of the bytes left, or its refusal.
 abbrev pub reference_of : List ℕ → List ℕ → Counts → Crossed → Reference
 reference_of b l c x = reference (table_in b l (with_count c x.types)) (places_in x.places) x.ty x.place
 
-abbrev pub crossed_of : List ℕ → List ℕ → Counts → Crossed → Res Reference
-crossed_of b l c x = elim (eqb x.refusal 0) [ false ↦ refuse x.refusal | true ↦ ok (reference_of b l c x) ]
-
-abbrev pub stopped : Places → ℕ → Crossed
-stopped ps e = record { refusal = e; ty = 0; place = 0; places = ps; types = 0 }
+abbrev pub crossed_of : List ℕ → List ℕ → Counts → Result Crossed Refusal → Res Reference
+crossed_of b l c = res_by (reference_of b l c)
 
 -- the places with the new adapter among them, and where the reference leads
 abbrev pub landed : Places → ℕ → Landing → ℕ → Crossed
-landed ps to (landing.Stands p) n = record { refusal = 0; ty = to; place = p; places = ps; types = n }
-landed ps to (landing.Adapter r) n = record { refusal = 0; ty = to; place = ps.count; places = place_added ps r; types = n }
+landed ps to (landing.Stands p) n = record { ty = to; place = p; places = ps; types = n }
+landed ps to (landing.Adapter r) n = record { ty = to; place = ps.count; places = place_added ps r; types = n }
 
 abbrev pub places_with : List Placeᵐ → Landing → List Placeᵐ
 places_with ps (landing.Stands p) = ps
@@ -74,7 +73,7 @@ pub record Came (c : Counts) (ps : Places) (s : ℕ) (b : List ℕ) (x : Crossed
   pub before : Before ps x.places
 
 -- What is left, refused or not: every byte of the types that there were.
-pub record Leaves (c : Counts) (ps : Places) (s : ℕ) (b b' : List ℕ) (x : Crossed) : Type 0 where
+pub record Leaves (c : Counts) (ps : Places) (s : ℕ) (b b' : List ℕ) (r : Result Crossed Refusal) : Type 0 where
   pub long : length b' ≡ types_size
   pub kept : Kept c.types b b'
-  pub came : x.refusal ≡ 0 → Came c ps s b' x
+  pub came : IfOk r (λ x. Came c ps s b' x)

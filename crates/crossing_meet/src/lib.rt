@@ -9,10 +9,9 @@ ghost use Rattle.table_record.specs.Store.{table_in};
 ghost use Rattle.table_record.specs.Limits.{Checked};
 ghost use Rattle.relation_states.specs.Asked.{relation_of};
 ghost use Rattle.state_record.specs.View.{places_in};
-ghost use Rattle.crossing_meet.specs.Crossed.{Ready, PlaceKnown, crossed_of, Leaves, stopped, landed, Room, places_with};
+ghost use Rattle.crossing_meet.specs.Crossed.{Ready, PlaceKnown, crossed_of, Leaves, landed, Room, places_with};
 
-use base_numbers::{narrow, refusal};
-use derive_record::Derived;
+use base_numbers::refusal::Refusal;
 use relation_states::Relation;
 use state_record::{Place, PlaceRec, Places, State};
 use table_record::{Counts, LINK_BYTES, TYPE_BYTES};
@@ -24,11 +23,9 @@ pub enum Landing {
     Adapter(PlaceRec),
 }
 
-// What came of it: `refusal` is its number, or 0. The static type of the reference and its place, the places with a new adapter among them, and how many
-// types there are now. The places stand beside the number, since no enum can hold an array.
+// The reference as it has become: its static type and its place, the places with a new adapter among them, and how many types there are now.
 #[derive(Clone, Copy)]
 pub struct Crossed {
-    pub refusal: usize,
     pub ty: usize,
     pub place: usize,
     pub places: Places,
@@ -50,19 +47,6 @@ pub fn asked(
     relation_search::related_at(types, links, c, k, t, s)
 }
 
-// A crossing that is refused leaves the places as they were.
-pub fn refused(ps: Places, number: usize) -> Crossed
-    ensures { result ≡ stopped ps number }
-{
-    Crossed {
-        refusal: number,
-        ty: 0,
-        place: 0,
-        places: ps,
-        types: 0,
-    }
-}
-
 // A new adapter becomes the next place, so that the next crossing and the new cell find it.
 pub fn land(ps: Places, ty: usize, x: Landing, types: usize) -> Crossed
     requires { Room ps x }
@@ -70,14 +54,12 @@ pub fn land(ps: Places, ty: usize, x: Landing, types: usize) -> Crossed
 {
     match x {
         Landing::Stands(place) => Crossed {
-            refusal: 0,
             ty,
             place,
             places: ps,
             types,
         },
         Landing::Adapter(record) => Crossed {
-            refusal: 0,
             ty,
             place: ps.count,
             places: ps.add(record),
@@ -96,30 +78,27 @@ pub fn meet(
     to: usize,
     right: usize,
     p: usize,
-) -> Crossed
+) -> Result<Crossed, Refusal>
     requires { Ready links.now c types.old × PlaceKnown ps p }
     ensures is { crossed_of types.new links.now c result
         ≡ adapt (table_in types.old links.now c) (places_in ps) to right p }
     ensures leaves { Leaves c ps to types.old types.new result }
 {
-    let v = state_places::place_type(state_record::place_at(ps, p));
-    let passes = asked(types, links, c, Relation::Conforms, right, v);
-    if passes {
-        return land(ps, to, Landing::Stands(p), c.types);
+    let v = state_places::place_type(ps.at(p));
+    if asked(types, links, c, Relation::Conforms, right, v) {
+        return Ok(land(ps, to, Landing::Stands(p), c.types));
     }
-    let strict = asked(types, links, c, Relation::Strict, right, v);
-    if !strict {
-        return refused(ps, refusal::NOT_STRICT);
+    if !asked(types, links, c, Relation::Strict, right, v) {
+        return Err(Refusal::NotStrict);
     }
-    let Derived::At(closed, count) = derive_closed::closed_any(types, c, right, v) else {
-        return refused(ps, refusal::TYPES_FULL);
-    };
+    let (closed, count) =
+        derive_closed::closed_any(types, c, right, v).ok_or(Refusal::TypesFull)?;
     if State::PLACES <= ps.count {
-        return refused(ps, refusal::PLACES_FULL);
+        return Err(Refusal::PlacesFull);
     }
     let place = Place::Adapter {
-        behind: narrow(p),
-        closed: narrow(closed),
+        behind: p as u8,
+        closed: closed as u8,
     };
-    land(ps, to, Landing::Adapter(PlaceRec { place }), count)
+    Ok(land(ps, to, Landing::Adapter(PlaceRec { place }), count))
 }

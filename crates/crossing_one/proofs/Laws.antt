@@ -23,16 +23,19 @@ use Rattle.table_record.specs.declared.Counts.{Counts}
 use Rattle.table_record.specs.Store.{types_in, table_in, with_count, own_of}
 use Rattle.table_record.proofs.Lists.{lt-or-ge}
 use Rattle.table_record.proofs.Tables.{size_is, type-is, type-out}
-use Rattle.derive_record.specs.declared.Derived.{Derived}
-use Rattle.derive_record.specs.declared.Derived.TheVariants.{Full, At}
+use Rattle.std.specs.Prelude.{Some, None, Result, Ok, Err}
+use Rattle.std.proofs.lemmas.Result.{IfOk-weaker}
+use Rattle.base_numbers.specs.declared.refusal.Refusal.{Refusal}
+use Rattle.base_numbers.specs.declared.refusal.Refusal.TheVariants.{Unrelated, NotOwner, TypesFull}
+use Rattle.derive_record.specs.Begins.{Derived}
 use Rattle.derive_sub_sup.specs.Link.{derivation_in, Derives, Ready as Derivable}
-use Rattle.state_record.specs.declared.Places.{Places}
+use Rattle.state_record.specs.Counted.{Places}
 use Rattle.state_record.specs.View.{places_in}
 use Rattle.state_record.specs.Sound.{Descending}
 use Rattle.state_places.specs.Behind.{BaseAt}
 use Rattle.crossing_meet.specs.declared.Landing.TheVariants as landing
 use Rattle.crossing_meet.specs.declared.Crossed.{Crossed}
-use Rattle.crossing_meet.specs.Crossed.{Ready, reference, crossed_of, Leaves, stopped, landed}
+use Rattle.crossing_meet.specs.Crossed.{Ready, reference, crossed_of, Came, Leaves, landed}
 use Rattle.crossing_meet.proofs.Laws.{same_kept, none-new, derives-grew, differ, equal, ready_on, stops, stands, leaves-on, derivable}
 use Rattle.crossing_one.specs.declared.Crossing.{Crossing}
 use Rattle.crossing_one.specs.Crosses.{own_in, crossing}
@@ -106,7 +109,7 @@ module _ (b l : List ℕ) (c : Counts) (h : Ready l c b) (ps : Places) (x : Cros
   abbrev T : Table
   T = table_in b l c
 
-  abbrev Crosses : List ℕ → Crossed → Type 0
+  abbrev Crosses : List ℕ → Result Crossed Refusal → Type 0
   Crosses b' q = (crossed_of b' l c q ≡ crossing T ps x) × Leaves c ps x.from b b' q
 
   -- the target is a type of the table, so what comes of the meeting is known of any static type before it
@@ -114,16 +117,16 @@ module _ (b l : List ℕ) (c : Counts) (h : Ready l c b) (ps : Places) (x : Cros
   known e = subst (λ (n : ℕ). x.to < n) (size_is b l c) (keeps-related free T x.to x.from e).low
 
   module _ (own : own_in c.types b x.to ≡ true) where
-    pub unwrap-unrelated : false ≡ related free T x.to x.from → (q : Crossed) → q ≡ stopped ps unrelated → Crosses b q
-    unwrap-unrelated e = stops b b l c ps x.from unrelated (omega arith) (own-unrelated T (places_in ps) x.from x.place x.to x.receiver (own-table b l c x.to ∙ own) (sym e)) h.long
+    pub unwrap-unrelated : false ≡ related free T x.to x.from → Crosses b (Err Unrelated)
+    unwrap-unrelated e = stops b b l c ps x.from Unrelated (own-unrelated T (places_in ps) x.from x.place x.to x.receiver (own-table b l c x.to ∙ own) (sym e)) h.long
         (same_kept c.types b)
 
     module _ (met : true ≡ related free T x.to x.from) (o : ℕ) (is : o ≡ base_owner (places_in ps) x.place) where
-      pub unwrap-not-owner : (o ≡ x.receiver → ⊥) → (q : Crossed) → q ≡ stopped ps not_owner → Crosses b q
-      unwrap-not-owner e = stops b b l c ps x.from not_owner (omega arith)
+      pub unwrap-not-owner : (o ≡ x.receiver → ⊥) → Crosses b (Err NotOwner)
+      unwrap-not-owner e = stops b b l c ps x.from NotOwner
           (own-not-owner T (places_in ps) x.from x.place x.to x.receiver (own-table b l c x.to ∙ own) (sym met) (differ (λ z. e (is ∙ sym z)))) h.long (same_kept c.types b)
 
-      pub unwrap_meets : o ≡ x.receiver → (base : ℕ) → BaseAt ps x.place base → (b' : List ℕ) (q : Crossed) →
+      pub unwrap_meets : o ≡ x.receiver → (base : ℕ) → BaseAt ps x.place base → (b' : List ℕ) (q : Result Crossed Refusal) →
           crossed_of b' l c q ≡ adapt T (places_in ps) x.to x.to base → Leaves c ps x.to b b' q → Crosses b' q
       unwrap_meets e base at b' q m k = (
         m ∙ ap (adapt T (places_in ps) x.to x.to) at.is
@@ -131,23 +134,23 @@ module _ (b l : List ℕ) (c : Counts) (h : Ready l c b) (ps : Places) (x : Cros
         record {
           long = k.long;
           kept = k.kept;
-          came = λ z. let w = k.came z in
-              record { ty = λ _. w.ty (known (sym met)); types = w.types; descending = w.descending; place = w.place; typed = w.typed; before = w.before };
+          came = IfOk-weaker q (λ y. Came c ps x.to b' y) (λ y. Came c ps x.from b' y)
+              (λ y w. record { ty = λ _. w.ty (known (sym met)); types = w.types; descending = w.descending; place = w.place; typed = w.typed; before = w.before }) k.came;
         },
       )
 
   module _ (desc : Descending ps) (place : x.place < ps.count) (own : own_in c.types b x.to ≡ false) where
-    pub restrict-unrelated : false ≡ related loose T x.to x.from → (q : Crossed) → q ≡ stopped ps unrelated → Crosses b q
-    restrict-unrelated e = stops b b l c ps x.from unrelated (omega arith)
+    pub restrict-unrelated : false ≡ related loose T x.to x.from → Crosses b (Err Unrelated)
+    restrict-unrelated e = stops b b l c ps x.from Unrelated
         (other-unrelated T (places_in ps) x.from x.place x.to x.receiver (own-table b l c x.to ∙ own) (sym e)) h.long (same_kept c.types b)
 
-    pub restrict-stays : true ≡ related subtype T x.to x.from → (q : Crossed) → q ≡ landed ps x.to (landing.Stands x.place) c.types → Crosses b q
-    restrict-stays e q z = let met = subtype→loose T x.to x.from (sym e) in subst (Crosses b) (sym z) (
+    pub restrict-stays : true ≡ related subtype T x.to x.from → (q : Crossed) → q ≡ landed ps x.to (landing.Stands x.place) c.types → Crosses b (Ok q)
+    restrict-stays e q z = let met = subtype→loose T x.to x.from (sym e) in subst (λ (y : Crossed). Crosses b (Ok y)) (sym z) (
       other-stays T (places_in ps) x.from x.place x.to x.receiver (own-table b l c x.to ∙ own) met (sym e),
       record {
         long = h.long;
         kept = same_kept c.types b;
-        came = λ _. stands c ps x.from x.to x.place c.types b desc place (none-new c b h.checked.limits.types) (λ _. known (loose→free T x.to x.from met));
+        came = stands c ps x.from x.to x.place c.types b desc place (none-new c b h.checked.limits.types) (λ _. known (loose→free T x.to x.from met));
       },
     )
 
@@ -159,25 +162,25 @@ module _ (b l : List ℕ) (c : Counts) (h : Ready l c b) (ps : Places) (x : Cros
         answer : (y : Derived) → d ≡ y → derivation_in b₁ l c y ≡ derived T sub x.to x.from
         answer y e = sym (ap (derivation_in b₁ l c) e) ∙ g.is l
 
-        pub restrict-types-full : d ≡ Full → (q : Crossed) → q ≡ stopped ps types_full → Crosses b₁ q
-        restrict-types-full e = stops b b₁ l c ps x.from types_full (omega arith)
-            (other-types-full T (places_in ps) x.from x.place x.to x.receiver (own-table b l c x.to ∙ own) (sym met) (sym less) (answer Full e)) g.keeps.long g.keeps.kept
+        pub restrict-types-full : d ≡ None → Crosses b₁ (Err TypesFull)
+        restrict-types-full e = stops b b₁ l c ps x.from TypesFull
+            (other-types-full T (places_in ps) x.from x.place x.to x.receiver (own-table b l c x.to ∙ own) (sym met) (sym less) (answer None e)) g.keeps.long g.keeps.kept
 
-        module _ (i m : ℕ) (e : d ≡ At i m) (n : Counts) (en : n ≡ with_count c m) where
+        module _ (i m : ℕ) (e : d ≡ Some (i, m)) (n : Counts) (en : n ≡ with_count c m) where
           pub restrict-ready : Ready l n b₁
           restrict-ready = subst (λ (y : Counts). Ready l y b₁) (sym en) (ready_on l c m b b₁ h (derives-grew c x.to x.from e g) g.keeps.long)
 
           -- the reference of type `to` at its place, with the types that the derivation left
-          half : Leaves c ps x.from b b₁ (landed ps x.to (landing.Stands x.place) m)
+          half : Leaves c ps x.from b b₁ (Ok (landed ps x.to (landing.Stands x.place) m))
           half = let w = derives-grew c x.to x.from e g in record {
             long = g.keeps.long;
             kept = g.keeps.kept;
-            came = λ _. stands c ps x.from x.to x.place m b₁ desc place w (λ _. let u = w.more in omega (arith, low, u));
+            came = stands c ps x.from x.to x.place m b₁ desc place w (λ _. let u = w.more in omega (arith, low, u));
           }
 
-          pub restrict-meets : (b₂ : List ℕ) (q : Crossed) → crossed_of b₂ l n q ≡ adapt (table_in b₁ l n) (places_in ps) x.to i x.place → Leaves n ps x.to b₁ b₂ q → Crosses b₂ q
+          pub restrict-meets : (b₂ : List ℕ) (q : Result Crossed Refusal) → crossed_of b₂ l n q ≡ adapt (table_in b₁ l n) (places_in ps) x.to i x.place → Leaves n ps x.to b₁ b₂ q → Crosses b₂ q
           restrict-meets b₂ q is k = (
             subst (λ (y : Counts). crossed_of b₂ l y q ≡ adapt (table_in b₁ l y) (places_in ps) x.to i x.place) en is
-                ∙ other-meets T (places_in ps) x.from x.place x.to x.receiver (own-table b l c x.to ∙ own) (sym met) (sym less) (table_in b₁ l (with_count c m)) i (answer (At i m) e),
-            leaves-on c ps x.from b b₁ (landed ps x.to (landing.Stands x.place) m) half refl b₂ q (subst (λ (y : Counts). Leaves y ps x.to b₁ b₂ q) en k),
+                ∙ other-meets T (places_in ps) x.from x.place x.to x.receiver (own-table b l c x.to ∙ own) (sym met) (sym less) (table_in b₁ l (with_count c m)) i (answer (Some (i, m)) e),
+            leaves-on c ps x.from b b₁ (landed ps x.to (landing.Stands x.place) m) half b₂ q (subst (λ (y : Counts). Leaves y ps x.to b₁ b₂ q) en k),
           )

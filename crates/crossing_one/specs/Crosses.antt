@@ -5,7 +5,7 @@ use Rattle.spec_model.specs.Table.{Table}
 use Rattle.spec_model.specs.Crossing.{Reference, cross}
 use Rattle.spec_model.specs.Check.{no_raw_type}
 use Rattle.table_record.specs.Store.{types_in, own_of}
-use Rattle.state_record.specs.declared.Places.{Places}
+use Rattle.state_record.specs.Counted.{Places}
 use Rattle.state_record.specs.View.{places_in}
 use Rattle.crossing_meet.specs.Crossed.{reference}
 use Rattle.crossing_one.specs.declared.Crossing.{Crossing}

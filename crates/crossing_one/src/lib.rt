@@ -8,9 +8,8 @@ ghost use Rattle.table_record.specs.Store.{table_in};
 ghost use Rattle.crossing_meet.specs.Crossed.{Ready, PlaceKnown, crossed_of, Leaves};
 ghost use Rattle.crossing_one.specs.Crosses.{own_in, crossing};
 
-use base_numbers::refusal;
+use base_numbers::refusal::Refusal;
 use crossing_meet::{Crossed, Landing};
-use derive_record::Derived;
 use relation_states::Relation;
 use state_record::Places;
 use table_record::{Counts, LINK_BYTES, TYPE_BYTES};
@@ -29,11 +28,7 @@ fn is_own(types: &[u8; TYPE_BYTES], n: usize, t: usize) -> bool
     requires { n ≤ max_types }
     ensures { result ≡ own_in n types.now t }
 {
-    if n <= t {
-        return false;
-    }
-    let plain = table_record::may_stand(types, t);
-    !plain
+    t < n && !table_record::may_stand(types, t)
 }
 
 // X1 to X3, the target own: the receiver must own the base, which the reference leads to from here on.
@@ -43,19 +38,17 @@ fn unwrap(
     c: Counts,
     ps: Places,
     x: Crossing,
-) -> Crossed
+) -> Result<Crossed, Refusal>
     requires { Ready links.now c types.old × PlaceKnown ps x.place × (own_in c.types types.old x.to ≡ true) }
     ensures is { crossed_of types.new links.now c result ≡ crossing (table_in types.old links.now c) ps x }
     ensures leaves { Leaves c ps x.from types.old types.new result }
 {
-    let free = crossing_meet::asked(types, links, c, Relation::Free, x.to, x.from);
-    if !free {
-        return crossing_meet::refused(ps, refusal::UNRELATED);
+    if !crossing_meet::asked(types, links, c, Relation::Free, x.to, x.from) {
+        return Err(Refusal::Unrelated);
     }
     let owner = state_places::base_owner(ps, x.place);
-    let receiver = x.receiver;
-    if owner != receiver {
-        return crossing_meet::refused(ps, refusal::NOT_OWNER);
+    if owner != x.receiver {
+        return Err(Refusal::NotOwner);
     }
     let base = state_places::base_of(ps, x.place);
     crossing_meet::meet(types, links, c, ps, x.to, x.to, base)
@@ -69,21 +62,19 @@ fn restrict_to(
     c: Counts,
     ps: Places,
     x: Crossing,
-) -> Crossed
+) -> Result<Crossed, Refusal>
     requires { Ready links.now c types.old × PlaceKnown ps x.place × (own_in c.types types.old x.to ≡ false) }
     ensures is { crossed_of types.new links.now c result ≡ crossing (table_in types.old links.now c) ps x }
     ensures leaves { Leaves c ps x.from types.old types.new result }
 {
     if crossing_meet::asked(types, links, c, Relation::Subtype, x.to, x.from) {
-        return crossing_meet::land(ps, x.to, Landing::Stands(x.place), c.types);
+        return Ok(crossing_meet::land(ps, x.to, Landing::Stands(x.place), c.types));
     }
-    let loose = crossing_meet::asked(types, links, c, Relation::Loose, x.to, x.from);
-    if !loose {
-        return crossing_meet::refused(ps, refusal::UNRELATED);
+    if !crossing_meet::asked(types, links, c, Relation::Loose, x.to, x.from) {
+        return Err(Refusal::Unrelated);
     }
-    let Derived::At(right, count) = derive_sub_sup::sub_type(types, c, x.to, x.from) else {
-        return crossing_meet::refused(ps, refusal::TYPES_FULL);
-    };
+    let (right, count) =
+        derive_sub_sup::sub_type(types, c, x.to, x.from).ok_or(Refusal::TypesFull)?;
     crossing_meet::meet(types, links, c.with_types(count), ps, x.to, right, x.place)
 }
 
@@ -94,7 +85,7 @@ pub fn cross(
     c: Counts,
     ps: Places,
     x: Crossing,
-) -> Crossed
+) -> Result<Crossed, Refusal>
     requires { Ready links.now c types.old × PlaceKnown ps x.place }
     ensures is { crossed_of types.new links.now c result ≡ crossing (table_in types.old links.now c) ps x }
     ensures leaves { Leaves c ps x.from types.old types.new result }

@@ -1,6 +1,5 @@
 -- Layers and targets as they are stored, in the words of the model, and what comes of a number that passes one.
-use Rattle.std.specs.Prelude.{Bool, List, map, suc, ℕ, ℤ, take, Some, None, Result}
-use Rattle.std.specs.Prelude.{Option as Maybe}
+use Rattle.std.specs.Prelude.{Bool, List, map, suc, ℕ, ℤ, take, Result}
 use Rattle.std.proofs.Math.Option.{Option, none, some}
 use Rattle.std.proofs.Math.ListN.{get_elem?}
 use Rattle.spec_model.specs.Basics.{Res, refuse, ok, need}
@@ -11,6 +10,7 @@ use Rattle.spec_model.specs.Requests.{at_layer, within}
 use Rattle.base_numbers.specs.declared.refusal.Refusal.{Refusal}
 use Rattle.base_numbers.specs.Refusal.{res_by}
 use Rattle.spec_model.specs.Refusals.{unrelated, too_wide}
+pub use Rattle.table_record.specs.Store.{option_of}
 use Rattle.table_record.specs.declared.Method.{Method}
 use Rattle.crossing_targets.specs.declared.CallLayers.{CallLayers}
 use Rattle.crossing_targets.specs.declared.Slot.{Slot}
@@ -23,11 +23,6 @@ call_layers_in w = take w.count w.list
 -- the most layers of a call: the cell's type, and those of a place (C9)
 abbrev pub max_layers : ℕ
 max_layers = suc max_places
-
--- an option as the model has it
-abbrev pub option_of : {A : Type 0} → Maybe A → Option A
-option_of (Some x) = some x
-option_of None = none
 
 -- the targets, as the model has them
 abbrev pub targets_in : Targets → List (Option ℕ)

@@ -10,7 +10,7 @@ use lib.IntN.{ℤ, pos, negsuc}
 use lib.ListN.{length, get_or, get_or-append}
 use lib.Seq.{get_or_at}
 use borrow.Author.Tests.{ltb-true, lt-ltb, le-ltb}
-use Rattle.std.specs.Prelude.{Result as Either, Ok, Err}
+use Rattle.std.specs.Prelude.{Ok, Err}
 use Rattle.spec_model.specs.Basics.{Res, refuse, ok, need, names, named}
 use Rattle.spec_model.specs.Table.{Table, type_at, is_ref, is_class, max_types}
 use Rattle.spec_model.specs.Crossing.{Reference}
@@ -29,8 +29,8 @@ use Rattle.derive_sub_sup.proofs.Bytes.{record_same}
 use Rattle.base_numbers.specs.Index.{index_of}
 use Rattle.base_numbers.proofs.Laws.{index-unknown, index-known}
 use Rattle.state_record.specs.declared.Cell.{Cell}
-use Rattle.state_record.specs.declared.Cells.{Cells}
-use Rattle.state_record.specs.declared.Places.{Places}
+use Rattle.state_record.specs.Counted.{Cells}
+use Rattle.state_record.specs.Counted.{Places}
 use Rattle.state_record.specs.declared.State.{State as Rest}
 use Rattle.state_record.specs.Whole.{Whole as State}
 use Rattle.state_record.specs.Whole.{whole}
@@ -46,7 +46,7 @@ use Rattle.crossing_meet.proofs.Laws.{grown-checked, grew-on}
 use Rattle.base_numbers.specs.declared.refusal.Refusal.{Refusal}
 use Rattle.base_numbers.specs.Refusal.{number_of}
 use Rattle.request_common.specs.declared.Answer.TheVariants.{Pair}
-use Rattle.request_common.specs.declared.Answer.{Answer}
+use Rattle.request_common.specs.Outcome.{Outcome}
 use Rattle.request_common.specs.Served.{refusal_of, Done, done, Stored, Step, Arrives, arrived, is_sheet_class}
 
 -- ---- What is left of a state.
@@ -85,11 +85,11 @@ pub refuses-kept : {s : State} {t : List ℕ} {m : Res (System × Result)} {e : 
 refuses-kept {s} {t} {m} h long k z y = subst (Step s m) (sym y) (record { is = sym z; stays = λ d w. refl; stored = stored-kept s t h k; sound = sound-types s t long h })
 
 -- The same with a refusal as a request returns it.
-pub step-refuses-kept : {b t : List ℕ} {s : Rest} {m : Res (System × Result)} {e : Refusal} {r : Either Answer Refusal} → Sound (whole b s) → length t ≡ types_size
+pub step-refuses-kept : {b t : List ℕ} {s : Rest} {m : Res (System × Result)} {e : Refusal} {r : Outcome} → Sound (whole b s) → length t ≡ types_size
     → Kept s.counts.types b t → m ≡ refuse (number_of e) → r ≡ Err e → Step (whole b s) m (done t s r)
 step-refuses-kept {b} {t} {s} h long k z y = refuses-kept {s = whole b s} h long k z (ap (done t s) y)
 
-pub step-refuses : {b : List ℕ} {s : Rest} {m : Res (System × Result)} {e : Refusal} {r : Either Answer Refusal} → Sound (whole b s) → m ≡ refuse (number_of e)
+pub step-refuses : {b : List ℕ} {s : Rest} {m : Res (System × Result)} {e : Refusal} {r : Outcome} → Sound (whole b s) → m ≡ refuse (number_of e)
     → r ≡ Err e → Step (whole b s) m (done b s r)
 step-refuses {b} {s} h z y = refuses {s = whole b s} h z (ap (done b s) y)
 
@@ -233,6 +233,12 @@ module _ (s : State) (types : List ℕ) (n : ℕ) (ps : Places) (holder ty place
 
   pub cell-refused : max_cells ≤ s.cells.count → add_cell (system_in s) holder f ≡ refuse cells_full
   cell-refused l = adds-is ∙ ap Adds (le-ltb s.cells.count max_cells l)
+
+  pub ty-byte : ty < 256
+  ty-byte = let u = h.ty in let w = h.grew.room in omega arith
+
+  pub place_byte : place < 256
+  place_byte = let u = h.place in let w = h.descending.count in omega arith
 
   module _ (room : s.cells.count < max_cells) (c : Cell) (is : cell_of c ≡ cell_by holder ty place)
       (cells : Cells) (e : cells ≡ cell_added s.cells c) (are : cells_in cells ≡ cells_in s.cells ++ (cell_of c ∷ [])) where

@@ -15,17 +15,21 @@ result_of (Pair a b) = pair a b
 result_of (Number v) = number v
 result_of Nothing = nothing
 
+-- what a request came to: its answer, or why it is refused
+abbrev pub Outcome : Type 0
+Outcome = Result Answer Refusal
+
 -- the values, or the number of the refusal
-abbrev pub outcome_of : Result Answer Refusal → Outcomeᵐ
+abbrev pub outcome_of : Outcome → Outcomeᵐ
 outcome_of (Ok a) = got (result_of a)
 outcome_of (Err e) = refused (number_of e)
 
 -- an outcome with the whole state that is left: the types as they are now, and the rest that was lent
 pub record Done : Type 0 where
-  pub outcome : Result Answer Refusal
+  pub outcome : Outcome
   pub state : State
 
-abbrev pub done : List ℕ → Rest → Result Answer Refusal → Done
+abbrev pub done : List ℕ → Rest → Outcome → Done
 done b s r = record { outcome = r; state = whole b s }
 
 -- a refusal, with the whole state as it was handed in

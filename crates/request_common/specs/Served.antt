@@ -8,7 +8,7 @@ use Rattle.spec_model.specs.Requests.{System, Result, Outcome as Outcomeᵐ, got
 use Rattle.table_record.specs.Store.{table_in, with_count}
 use Rattle.table_record.specs.Layout.{types_size}
 use Rattle.derive_sub_sup.specs.Link.{Kept}
-use Rattle.state_record.specs.declared.Places.{Places}
+use Rattle.state_record.specs.Counted.{Places}
 use Rattle.state_record.specs.Whole.{Whole as State}
 use Rattle.state_record.specs.View.{places_in, system_in, with_types}
 use Rattle.state_record.specs.Sound.{Descending, Typed, Sound}

@@ -85,7 +85,7 @@ pub fn is_held(cs: Cells, who: usize, k: i64) -> bool
     ensures { (s : Whole) (subject : ℤ) → s.cells ≡ cs → named subject ≡ who → result ≡ held (system_in s) subject k }
 {
     let i = index_of(k, cs.count);
-    i < cs.count && who == usize::from(state_record::cell_at(cs, i).holder)
+    i < cs.count && who == usize::from(cs.at(i).holder)
 }
 
 // Whether z is the number of a sheet ref type (N3, M3).

@@ -22,7 +22,7 @@ use Rattle.table_record.proofs.Codes.{answer-is}
 use Rattle.base_numbers.specs.Index.{index_of}
 use Rattle.base_numbers.proofs.Laws.{index-unknown, index-known}
 use Rattle.state_record.specs.declared.Cell.{Cell}
-use Rattle.state_record.specs.declared.Cells.{Cells}
+use Rattle.state_record.specs.Counted.{Cells}
 use Rattle.state_record.specs.View.{cell_of, cells_in}
 use Rattle.state_record.proofs.Laws.{cells-length}
 use Rattle.crossing_targets.specs.Targets.{argument_of}

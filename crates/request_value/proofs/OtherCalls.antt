@@ -6,7 +6,7 @@ use lib.ListN.{get_or}
 use Rattle.spec_model.specs.Basics.{ok}
 use Rattle.spec_model.specs.Requests.{System, Result, no_call, with_calls, got, max_calls_each, made_by}
 use Rattle.spec_model.proofs.Rules.{never}
-use Rattle.state_record.specs.declared.Calls.{Calls}
+use Rattle.state_record.specs.Counted.{Calls}
 use Rattle.state_record.specs.Whole.{Whole as State}
 use Rattle.state_record.specs.View.{calls_in, system_in}
 use Rattle.state_record.specs.Sound.{CallIn, Sound}

@@ -1,5 +1,6 @@
 -- What comes of one argument, and of all of them.
-use Rattle.std.specs.Prelude.{◌≡◌, true, false, List, map, ℕ, ◌≤◌, ℤ, take}
+use Rattle.std.specs.Prelude.{◌≡◌, true, false, List, map, ℕ, ◌≤◌, ℤ, take, Ok, Err}
+use Rattle.std.specs.Prelude.{Result as Either}
 use Rattle.spec_model.specs.Basics.{Res, refuse, ok, try, named}
 use Rattle.spec_model.specs.Table.{type_at, argument_at, is_ref}
 use Rattle.spec_model.specs.Requests.{System, Result, nothing, send, pass_layers}
@@ -9,8 +10,10 @@ use Rattle.state_record.specs.View.{calls_in}
 use Rattle.state_record.specs.Sound.{Sound}
 use Rattle.request_common.specs.Served.{Done as Served}
 use Rattle.request_common.specs.Served.{served_as, Stored}
-use Rattle.request_value.specs.declared.Numbers.{Numbers}
-use Rattle.request_value.specs.declared.Numbers.TheVariants as numbers
+use Rattle.base_numbers.specs.declared.refusal.Refusal.{Refusal}
+use Rattle.base_numbers.specs.Refusal.{number_of}
+use Rattle.request_value.specs.declared.Met.{Met}
+use Rattle.request_value.specs.declared.Met.TheVariants as met
 
 -- argument types of a signature as it is stored
 abbrev pub arguments_of : Method → List ℕ
@@ -40,7 +43,7 @@ pub record Sent (s : State) (m : Res (System × Result)) (q : Served) : Type 0 w
   pub went : Went s q.state
 
 -- What is known of all arguments, sent from s, by their numbers alone; nothing where one is a reference.
-abbrev pub Passes : System → Res System → Numbers → Type 0
-Passes s m (numbers.Refused e) = (m ≡ refuse e) × (e ≡ 0 → ⊥)
-Passes s m numbers.Passed = m ≡ ok s
-Passes s m numbers.Reference = Unit {0}
+abbrev pub Passes : System → Res System → Either Met Refusal → Type 0
+Passes s m (Err e) = m ≡ refuse (number_of e)
+Passes s m (Ok met.Numbers) = m ≡ ok s
+Passes s m (Ok met.Reference) = Unit {0}

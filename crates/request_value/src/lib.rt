@@ -13,9 +13,10 @@ ghost use Rattle.crossing_targets.specs.Targets.{call_layers_in, targets_in, max
 ghost use Rattle.request_common.specs.Served.{Step, done};
 ghost use Rattle.request_value.specs.Sent.{arguments_of, send_argument, all_sent, Went, Sent, Passes};
 
-use base_numbers::{index_of, wide};
+use base_numbers::index_of;
+use base_numbers::refusal::Refusal;
 use crossing_targets::{CallLayers, Slot, Targets};
-use request_common::{Outcome, Served};
+use request_common::Answer;
 use state_record::{Cell, Cells, State};
 use table_record::{Counts, Method, TYPE_BYTES};
 
@@ -23,10 +24,7 @@ use table_record::{Counts, Method, TYPE_BYTES};
 fn from_zero(v: i64) -> i64
     ensures { result ≡ pos (named v) }
 {
-    if v < 0 {
-        return 0;
-    }
-    v
+    v.max(0)
 }
 
 // The cell that v names. Where it names none it is read as one of zeros, as in the model. No state that passed the check comes to that (H6, C5), but `Sound`
@@ -37,7 +35,7 @@ fn named_cell(cs: Cells, v: i64) -> Cell
 {
     let k = index_of(from_zero(v), cs.count);
     if k < cs.count {
-        return state_record::cell_at(cs, k);
+        return cs.at(k);
     }
     Cell {
         holder: 0,
@@ -47,68 +45,61 @@ fn named_cell(cs: Cells, v: i64) -> Cell
 }
 
 // The reference in the cell that v names crosses to each target and becomes a cell of r (C11, C17; A8, A10).
-pub fn send(types: &mut [u8; TYPE_BYTES], s: State, r: usize, v: i64, targets: Targets) -> Served
-    requires { Sound (whole types.old s) × (0 < s.places.count) × (0 < s.counts.types) × (r < 256) × (targets.count ≤ max_layers) }
-    ensures { Step (whole types.old s) (send (system_in (whole types.old s)) r (named v) (targets_in targets))
-        (done types.new result)
-        × Went (whole types.old s) (whole types.new result.state) }
+pub fn send(
+    types: &mut [u8; TYPE_BYTES],
+    s: &mut State,
+    r: usize,
+    v: i64,
+    targets: Targets,
+) -> Result<Answer, Refusal>
+    requires { Sound (whole types.old s.old) × (0 < s.old.places.count) × (0 < s.old.counts.types) × (r < 256) × (targets.count ≤ max_layers) }
+    ensures { Step (whole types.old s.old) (send (system_in (whole types.old s.old)) r (named v) (targets_in targets))
+        (done types.new s.new result)
+        × Went (whole types.old s.old) (whole types.new s.new) }
 {
     let c = named_cell(s.cells, v);
-    let links = s.links;
-    let counts = s.counts;
-    let ps = s.places;
     let x = crossing_layers::carry(
         types,
-        &links,
-        counts,
-        ps,
-        wide(c.ty),
-        wide(c.place),
+        &s.links,
+        s.counts,
+        s.places,
+        usize::from(c.ty),
+        usize::from(c.place),
         targets,
         r,
-    );
-    if x.refusal != 0 {
-        return request_common::refused(s, x.refusal);
-    }
+    )?;
     request_common::add_cell(s, x.types, x.places, r, x.ty, x.place)
 }
 
 // Argument i, of type a in the signature of the cell's type, meets the layers by the types as they are now (C8, C10).
 fn send_argument(
     types: &mut [u8; TYPE_BYTES],
-    s: State,
+    s: &mut State,
     r: usize,
     w: CallLayers,
     m: usize,
     i: usize,
     a: usize,
     v: i64,
-) -> Served
-    requires { Sound (whole types.old s) × (0 < s.places.count) × (0 < s.counts.types) × (r < 256) × (w.count ≤ max_layers) }
-    ensures { Step (whole types.old s) (send_argument (system_in (whole types.old s)) r (call_layers_in w) m i a v)
-        (done types.new result)
-        × Went (whole types.old s) (whole types.new result.state) }
+) -> Result<Answer, Refusal>
+    requires { Sound (whole types.old s.old) × (0 < s.old.places.count) × (0 < s.old.counts.types) × (r < 256) × (w.count ≤ max_layers) }
+    ensures { Step (whole types.old s.old) (send_argument (system_in (whole types.old s.old)) r (call_layers_in w) m i a v)
+        (done types.new s.new result)
+        × Went (whole types.old s.old) (whole types.new s.new) }
 {
     let c = s.counts;
     let targets = crossing_targets::targets_of(types, c, m, Slot::Argument(i), w);
     if table_record::names_ref(types, c.types, a) {
         return send(types, s, r, v, targets);
     }
-    let e = crossing_targets::pass(types, c, v, targets);
-    if e != 0 {
-        return request_common::refused(s, e);
-    }
-    Served {
-        outcome: Outcome::Nothing,
-        state: s,
-    }
+    crossing_targets::pass(types, c, v, targets)?;
+    Ok(Answer::Nothing)
 }
 
-// What the arguments come to before any is sent: the refusal of a number; all passed, and none is a reference; or a reference is met, and nothing is said.
-#[derive(Clone, Copy)]
-pub enum Numbers {
-    Refused(usize),
-    Passed,
+// What the arguments are met as, where none is refused before any is sent: all are numbers, and have passed; or a reference is met, and nothing is said.
+#[derive(Clone, Copy, Debug, PartialEq, Eq)]
+pub enum Met {
+    Numbers,
     Reference,
 }
 
@@ -120,67 +111,44 @@ pub fn pass_numbers(
     m: usize,
     x: Method,
     vs: &[i64],
-) -> Numbers
+) -> Result<Met, Refusal>
     requires { Limits c × (w.count ≤ max_layers) }
     ensures { (s : Whole) (r : ℕ) → s.types ≡ types.now → s.counts ≡ c
         → Passes (system_in s) (send_arguments (system_in s) r (call_layers_in w) m 0 (arguments_of x) vs.now) result }
 {
-    let n = vs.len();
-    let mut i: usize = 0;
-    while i < n {
-        let a = crossing_targets::argument_in(x, i);
-        if a == 0 {
-            return Numbers::Passed;
-        }
-        if table_record::names_ref(types, c.types, a - 1) {
-            return Numbers::Reference;
+    for i in 0..vs.len() {
+        let Some(a) = crossing_targets::argument_in(x, i) else {
+            return Ok(Met::Numbers);
+        };
+        if table_record::names_ref(types, c.types, usize::from(a)) {
+            return Ok(Met::Reference);
         }
         let targets = crossing_targets::targets_of(types, c, m, Slot::Argument(i), w);
-        let e = crossing_targets::pass(types, c, vs[i], targets);
-        if e != 0 {
-            return Numbers::Refused(e);
-        }
-        i += 1;
+        crossing_targets::pass(types, c, vs[i], targets)?;
     }
-    Numbers::Passed
+    Ok(Met::Numbers)
 }
 
-// The arguments in order, each before the next is begun (C10, C17).
+// The arguments in order, each before the next is begun (C10, C17). After a refusal the state is the one that the refused argument met.
 pub fn send_arguments(
     types: &mut [u8; TYPE_BYTES],
-    s: State,
+    s: &mut State,
     r: usize,
     w: CallLayers,
     m: usize,
     x: Method,
     vs: &[i64],
-) -> Served
-    requires { Sound (whole types.old s) × (0 < s.places.count) × (0 < s.counts.types) × (r < 256) × (w.count ≤ max_layers) }
-    ensures { Sent (whole types.old s)
-        (all_sent (send_arguments (system_in (whole types.old s)) r (call_layers_in w) m 0 (arguments_of x) vs.now))
-        (done types.new result) }
+) -> Result<Answer, Refusal>
+    requires { Sound (whole types.old s.old) × (0 < s.old.places.count) × (0 < s.old.counts.types) × (r < 256) × (w.count ≤ max_layers) }
+    ensures { Sent (whole types.old s.old)
+        (all_sent (send_arguments (system_in (whole types.old s.old)) r (call_layers_in w) m 0 (arguments_of x) vs.now))
+        (done types.new s.new result) }
 {
-    let n = vs.len();
-    let mut at = s;
-    let mut i: usize = 0;
-    while i < n {
-        let a = crossing_targets::argument_in(x, i);
-        if a == 0 {
-            return Served {
-                outcome: Outcome::Nothing,
-                state: at,
-            };
-        }
-        let q = send_argument(types, at, r, w, m, i, a - 1, vs[i]);
-        let outcome = q.outcome;
-        if !request_common::accepted(outcome) {
-            return q;
-        }
-        at = q.state;
-        i += 1;
+    for i in 0..vs.len() {
+        let Some(a) = crossing_targets::argument_in(x, i) else {
+            return Ok(Answer::Nothing);
+        };
+        send_argument(types, s, r, w, m, i, usize::from(a), vs[i])?;
     }
-    Served {
-        outcome: Outcome::Nothing,
-        state: at,
-    }
+    Ok(Answer::Nothing)
 }

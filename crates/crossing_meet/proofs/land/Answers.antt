@@ -3,7 +3,7 @@ use mathlib.Core.Path.{sym, ap, subst, ◌∙◌}
 use Rattle.state_record.specs.View.{places_in}
 use Rattle.crossing_meet.specs.declared.Landing.{Landing}
 use Rattle.crossing_meet.specs.Crossed.{landed, places_with, Room}
-use Rattle.state_record.specs.declared.Places.{Places}
+use Rattle.state_record.specs.Counted.{Places}
 use Rattle.crossing_meet.proofs.land.Goals as goal
 
 pub add-requires : goal.add-requires
