@@ -1,4 +1,4 @@
--- A reference at one layer and over all of them: what a crossing leaves is put together, and the rest of the way follows.
+-- A reference over all layers: what the crossings leave is put together, and the rest of the way follows.
 use mathlib.Core.Path.{◌≡◌, refl, sym, ap, ◌∙◌, subst}
 use mathlib.Core.Bool.{Bool, true, false}
 use mathlib.Core.List.{List, [], ◌∷◌, map}
@@ -27,42 +27,6 @@ use Rattle.crossing_meet.proofs.Laws.{ready_on, stops, leaves-on}
 use Rattle.crossing_targets.specs.Targets.{option_of}
 use Rattle.crossing_targets.proofs.Laws.{rest-next, nothing_left}
 use Rattle.crossing_layers.specs.Carried.{cross_to}
-
--- ---- One layer.
--- y, its refusal by the number of its layer
-abbrev pub Numbered : Bool → Result Crossed Refusal → Result Crossed Refusal → Type 0
-Numbered first (Ok x) q = q ≡ Ok x
-Numbered first (Err e) q = (d : Refusal) × (q ≡ Err d) × (number_of d ≡ at_layer first (number_of e))
-
-numbered_is : (first : Bool) (b l : List ℕ) (c : Counts) (y q : Result Crossed Refusal) → Numbered first y q → crossed_of b l c q ≡ renumber first (crossed_of b l c y)
-numbered_is first b l c (Ok x) q h = ap (crossed_of b l c) h
-numbered_is first b l c (Err e) q h = ap (crossed_of b l c) h.1 ∙ ap (λ (n : ℕ). refuse n) h.2
-
-numbered-came : (first : Bool) (P : Crossed → Type 0) (y q : Result Crossed Refusal) → Numbered first y q → IfOk y P → IfOk q P
-numbered-came first P (Ok x) q h k = subst (λ (r : Result Crossed Refusal). IfOk r P) (sym h) k
-numbered-came first P (Err e) q h k = subst (λ (r : Result Crossed Refusal). IfOk r P) (sym h.1) tt
-
-module _ (b l : List ℕ) (c : Counts) (x : Crossed) (target : Maybe ℕ) (r i : ℕ) where
-  abbrev Steps : List ℕ → Result Crossed Refusal → Type 0
-  Steps b' q = (crossed_of b' l c q ≡ cross_to (eqb i 0) (reference_of b l c x) r (option_of target)) × Leaves (with_count c x.types) x.places x.ty b b' q
-
-  pub one_none : length b ≡ types_size → target ≡ None → (e : Refusal) → number_of e ≡ at_layer (eqb i 0) unrelated → Steps b (Err e)
-  one_none long z e w = stops b b l (with_count c x.types) x.places x.ty e
-      (ap (λ (n : ℕ). refuse n) w ∙ sym (ap (λ (o : Maybe ℕ). cross_to (eqb i 0) (reference_of b l c x) r (option_of o)) z)) long (λ j h. refl)
-
-  module _ (to : ℕ) (at : target ≡ Some to) (d : Counts) (de : d ≡ with_count c x.types) (b' : List ℕ) (y : Result Crossed Refusal) where
-    abbrev Asks : Counts → Res Reference
-    Asks k = cross (reference (table_in b l k) (places_in x.places) x.ty x.place) to r
-
-    pub one-crosses : crossed_of b' l d y ≡ Asks d → Leaves d x.places x.ty b b' y → (q : Result Crossed Refusal) → Numbered (eqb i 0) y q → Steps b' q
-    one-crosses is leaves q w = let k = subst (λ (k : Counts). Leaves k x.places x.ty b b' y) de leaves in (
-      numbered_is (eqb i 0) b' l c y q w ∙ ap (renumber (eqb i 0)) (subst (λ (k : Counts). crossed_of b' l k y ≡ Asks k) de is)
-          ∙ sym (ap (λ (o : Maybe ℕ). cross_to (eqb i 0) (reference_of b l c x) r (option_of o)) at),
-      record { long = k.long; kept = k.kept; came = numbered-came (eqb i 0) (λ z. Came (with_count c x.types) x.places x.ty b' z) y q w k.came },
-    )
-
-pub one-ready : (b l : List ℕ) (c d : Counts) (n : ℕ) → d ≡ with_count c n → Ready l (with_count c n) b → Ready l d b
-one-ready b l c d n e h = subst (λ (k : Counts). Ready l k b) (sym e) h
 
 -- ---- All layers.
 cross-step : (first : Bool) (f : Reference) (r : ℕ) (o : Option ℕ) (os : List (Option ℕ)) → cross_layers first f r (o ∷ os) ≡ try (cross_to first f r o) (λ g. cross_layers false g r os)

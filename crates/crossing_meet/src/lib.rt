@@ -91,8 +91,9 @@ pub fn meet(
     if !asked(types, links, c, Relation::Strict, right, v) {
         return Err(Refusal::NotStrict);
     }
-    let (closed, count) =
-        derive_closed::closed_any(types, c, right, v).ok_or(Refusal::TypesFull)?;
+    let Some((closed, count)) = derive_closed::closed_any(types, c, right, v) else {
+        return Err(Refusal::TypesFull);
+    };
     if State::PLACES <= ps.count {
         return Err(Refusal::PlacesFull);
     }

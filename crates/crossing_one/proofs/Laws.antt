@@ -84,15 +84,8 @@ module _ (t : Table) (ps : List Place) (s p to r : ℕ) where
         other-meets u i e = rw (own, met, less, ← e)
 
 -- ---- The own flag.
-pub own_out : (n t : ℕ) (b : List ℕ) → n ≤ t → false ≡ own_in n b t
+own_out : (n t : ℕ) (b : List ℕ) → n ≤ t → false ≡ own_in n b t
 own_out n t b h = ap (λ (z : Bool). z && own_of (get_or (types_in b) t no_raw_type)) (sym (le-ltb t n h))
-
-pub own-in : (n t : ℕ) (b : List ℕ) (plain : Bool) → t < n → plain ≡ not (own_of (get_or (types_in b) t no_raw_type)) → not plain ≡ own_in n b t
-own-in n t b plain h e = ap not e ∙ twice (own_of (get_or (types_in b) t no_raw_type)) ∙ ap (λ (z : Bool). z && own_of (get_or (types_in b) t no_raw_type)) (sym (lt-ltb t n h))
-  where
-    twice : (z : Bool) → not (not z) ≡ true && z
-    twice true = refl
-    twice false = refl
 
 own-table : (b l : List ℕ) (c : Counts) (t : ℕ) → (type_at (table_in b l c) t).own ≡ own_in c.types b t
 own-table b l c t = go (lt-or-ge t c.types) where

@@ -73,8 +73,9 @@ fn restrict_to(
     if !crossing_meet::asked(types, links, c, Relation::Loose, x.to, x.from) {
         return Err(Refusal::Unrelated);
     }
-    let (right, count) =
-        derive_sub_sup::sub_type(types, c, x.to, x.from).ok_or(Refusal::TypesFull)?;
+    let Some((right, count)) = derive_sub_sup::sub_type(types, c, x.to, x.from) else {
+        return Err(Refusal::TypesFull);
+    };
     crossing_meet::meet(types, links, c.with_types(count), ps, x.to, right, x.place)
 }
 

@@ -1,20 +1,18 @@
 -- A state with other calls: a call adds one (C18), an answer marks one (A11).
 use mathlib.Core.Path.{◌≡◌, refl, sym, ap, ◌∙◌}
-use mathlib.Core.Bool.{true}
 use Prim.Native.Nat.{ℕ, ◌≤◌, ◌<◌}
 use lib.ListN.{get_or}
 use Rattle.spec_model.specs.Basics.{ok}
-use Rattle.spec_model.specs.Requests.{System, Result, no_call, with_calls, got, max_calls_each, made_by}
-use Rattle.spec_model.proofs.Rules.{never}
+use Rattle.std.specs.Prelude.{Ok}
+use Rattle.spec_model.specs.Requests.{System, no_call, with_calls, max_calls_each, made_by}
 use Rattle.state_record.specs.Counted.{Calls}
 use Rattle.state_record.specs.Whole.{Whole as State}
 use Rattle.state_record.specs.View.{calls_in, system_in}
 use Rattle.state_record.specs.Sound.{CallIn, Sound}
 use Rattle.state_record.proofs.Laws.{system-is}
-use Rattle.request_common.specs.declared.Outcome.{Outcome}
-use Rattle.request_common.specs.Served.{outcome_of, served_with, Step}
+use Rattle.request_common.specs.declared.Answer.{Answer}
+use Rattle.request_common.specs.Served.{result_of, Step}
 use Rattle.request_common.proofs.Laws.{stored-self}
-use Rattle.request_common.specs.Back.{is_accepted}
 
 abbrev pub calls_left : State → Calls → State
 calls_left s calls = record { types = s.types; links = s.links; counts = s.counts; cells = s.cells; places = s.places; calls = calls }
@@ -24,11 +22,10 @@ module _ (s : State) (h : Sound s) (calls : Calls) (each : (j : ℕ) → j < cal
   pub calls-mean : system_in (calls_left s calls) ≡ with_calls (system_in s) (calls_in calls)
   calls-mean = system-is (calls_left s calls) ∙ ap (λ (x : System). with_calls x (calls_in calls)) (sym (system-is s))
 
-  pub calls-step : (a : Outcome) (x : Result) → outcome_of a ≡ got x → is_accepted a ≡ true
-      → Step s (ok (with_calls (system_in s) (calls_in calls), x)) (record { outcome = a; state = calls_left s calls })
-  calls-step a x e k = record {
-    is = ap (served_with (system_in (calls_left s calls))) e ∙ ap (λ (y : System). ok (y, x)) calls-mean;
-    stays = λ d y. never (sym (ap is_accepted y) ∙ k);
+  pub calls-step : (a : Answer) → Step s (ok (with_calls (system_in s) (calls_in calls), result_of a)) (record { outcome = Ok a; state = calls_left s calls })
+  calls-step a = record {
+    is = ap (λ (y : System). ok (y, result_of a)) calls-mean;
+    stays = λ d y. cc;
     stored = let y = stored-self s h in record { links = refl; counts = refl; grew = y.grew; kept = y.kept };
     sound = record {
       long = h.long;

@@ -7,10 +7,9 @@ use mathlib.Core.Option.{Option}
 use Prim.Native.Nat.{ℕ, suc, ◌+◌, ◌≤◌, ◌<◌}
 use native.Mathlib.Numerals.{add-one}
 use native.Mathlib.Omega.{arith}
-use lib.Dec.{eqb, ltb}
+use lib.Dec.{ltb}
 use lib.IntN.{ℤ}
 use lib.ListN.{length, get_or, drop, length-append, get_or-eq_default}
-use borrow.Author.Tests.{eq-eqb, ne_eqb}
 use Rattle.spec_model.specs.Basics.{Res, refuse, ok, try, need, named}
 use Rattle.spec_model.specs.Table.{Table, type_at, argument_at, is_ref}
 use Rattle.spec_model.specs.Crossing.{Reference}
@@ -28,11 +27,16 @@ use Rattle.state_record.specs.View.{cell_of, cells_in, places_in, system_in}
 use Rattle.state_record.specs.Sound.{CellIn, Sound}
 use Rattle.state_record.proofs.Laws.{cells-length, places-length, calls-length, system-is, means-counted}
 use Rattle.crossing_meet.specs.declared.Crossed.{Crossed}
-use Rattle.crossing_meet.specs.Crossed.{reference, Ready, PlaceKnown, crossed_of, Leaves}
-use Rattle.crossing_meet.proofs.Laws.{refused-is, came-is}
+use Rattle.crossing_meet.specs.Crossed.{reference, Ready, PlaceKnown, crossed_of, Came, Leaves}
+use Rattle.std.proofs.lemmas.Result.{IfOk-at_ok}
 use Rattle.crossing_targets.specs.Targets.{passed_of}
-use Rattle.request_common.specs.declared.Outcome.{Outcome}
-use Rattle.request_common.specs.declared.Outcome.TheVariants.{Refused, Pair, Number, Nothing}
+use Rattle.std.specs.Prelude.{Ok, Err, IfOk}
+use Rattle.std.specs.Prelude.{Result as Either}
+use Rattle.base_numbers.specs.declared.refusal.Refusal.{Refusal}
+use Rattle.base_numbers.specs.Refusal.{number_of as refusal_number}
+use Rattle.request_common.specs.declared.Answer.{Answer}
+use Rattle.request_common.specs.declared.Answer.TheVariants.{Nothing}
+use Rattle.request_common.specs.Outcome.{Outcome}
 use Rattle.request_common.specs.Served.{Done as Served, refusal_of as refusal}
 use Rattle.state_record.specs.View.{with_types}
 use Rattle.request_common.specs.Served.{outcome_of, served_with, served_as, Stored, Step, Arrives, arrived}
@@ -43,23 +47,17 @@ use Rattle.request_common.specs.Back.{is_accepted}
 -- ---- Answers.
 -- what goes on with the state of an accepted request alone
 pub goes_on : {A : Type 0} (a : Outcome) (s : System) (k : System → Res A) → is_accepted a ≡ true → try (served_with s (outcome_of a)) (λ x. k x.0) ≡ k s
-goes_on (Refused e) s k h = never h
-goes_on (Pair x y) s k h = refl
-goes_on (Number v) s k h = refl
-goes_on Nothing s k h = refl
+goes_on (Ok a) s k h = refl
+goes_on (Err e) s k h = never h
 
 -- a request that is not accepted is refused with some number
-pub only-refused : (P : Outcome → Type 0) → ((e : ℕ) → P (Refused e)) → (a : Outcome) → is_accepted a ≡ false → P a
-only-refused P f (Refused e) h = f e
-only-refused P f (Pair x y) h = never (sym h)
-only-refused P f (Number v) h = never (sym h)
-only-refused P f Nothing h = never (sym h)
+pub only-refused : (P : Outcome → Type 0) → ((e : Refusal) → P (Err e)) → (a : Outcome) → is_accepted a ≡ false → P a
+only-refused P f (Ok a) h = never (sym h)
+only-refused P f (Err e) h = f e
 
 pub accepted-by : (a : Outcome) (s : System) {x : System × Result} → served_with s (outcome_of a) ≡ ok x → is_accepted a ≡ true
-accepted-by (Refused e) s h = absurd (let z : ◌≡◌ {A = ℕ} 0 1 = ap (λ (y : Res (System × Result)). elim y [ refuse d ↦ 0 | ok u ↦ 1 ]) h in omega arith)
-accepted-by (Pair x y) s h = refl
-accepted-by (Number v) s h = refl
-accepted-by Nothing s h = refl
+accepted-by (Ok a) s h = refl
+accepted-by (Err e) s h = cc
 
 -- an accepted step from a state that another has left
 pub step_after : {s : State} {x : System × Result} (s₁ : State) → Stored s s₁ → (r : Served) → Step s₁ (ok x) r → Step s (ok x) r
@@ -78,7 +76,7 @@ step-stops {s} {m} k q h z = record { is = same q.outcome z ∙ ap (λ (y : Res 
     same = only-refused (λ (a : Outcome). served_with (system_in q.state) (outcome_of a) ≡ try (served_with (system_in q.state) (outcome_of a)) k) (λ e. refl)
 
 -- nothing is done
-pub step-nothing : (s : State) → Sound s → Step s (ok (system_in s, nothing)) (record { outcome = Nothing; state = s })
+pub step-nothing : (s : State) → Sound s → Step s (ok (system_in s, nothing)) (record { outcome = Ok Nothing; state = s })
 step-nothing s h = record { is = refl; stays = λ e y. refl; stored = stored-self s h; sound = h }
 
 pub went-self : (s : State) → Went s s
@@ -131,10 +129,8 @@ added_goes s r f more q k = go q.outcome refl (ltb (length (system_in s).cells) 
         went-by s q.state (system_in s) e (omega arith) (let p : length (system_in s).places ≡ s.places.count = (means-counted s).places in omega arith) refl
 
     go : (a : Outcome) → q.outcome ≡ a → (b : Bool) → served_with (system_in q.state) (outcome_of a) ≡ need b cells_full (λ _. ok new) → Went s q.state
-    go (Refused d) z b e = subst (Went s) (sym (k.stays d z)) (went-types s q.state.types)
-    go (Pair x y) z b e = left b (ap (after (system_in s)) e)
-    go (Number v) z b e = left b (ap (after (system_in s)) e)
-    go Nothing z b e = left b (ap (after (system_in s)) e)
+    go (Ok a) z b e = left b (ap (after (system_in s)) e)
+    go (Err d) z b e = subst (Went s) (sym (k.stays d z)) (went-types s q.state.types)
 
 module _ (s : State) (h : Sound s) (r k : ℕ) (c : Cell) (is : cell_of c ≡ get_or (cells_in s.cells) k no_cell) (inside : CellIn s (get_or (cells_in s.cells) k no_cell)) (ts : List (Option ℕ))
     (ty place : ℕ) (type-is : ty ≡ c.ty) (place_is : place ≡ c.place) where
@@ -156,80 +152,80 @@ module _ (s : State) (h : Sound s) (r k : ℕ) (c : Cell) (is : cell_of c ≡ ge
       ∙ ap (λ (n : ℕ). reference (table_in s.types s.links s.counts) (places_in s.places) n (get_or (cells_in s.cells) k no_cell).place) (sym type-at)
       ∙ ap (λ (n : ℕ). reference (table_in s.types s.links s.counts) (places_in s.places) ty n) (sym place-at)
 
-  module _ (b : List ℕ) (x : Crossed) (crossed : crossed_of b s.links s.counts x ≡ cross_layers true From r ts) (leaves : Leaves s.counts s.places ty s.types b x) where
-    abbrev Arrived : Reference
-    Arrived = arrived s b x.types x.places x.ty x.place
-
+  module _ (b : List ℕ) (y : Either Crossed Refusal) (crossed : crossed_of b s.links s.counts y ≡ cross_layers true From r ts) (leaves : Leaves s.counts s.places ty s.types b y) where
     abbrev Adds : Res Reference → Res (System × Result)
-    Adds y = try y (λ f. add_cell (system_in s) r f)
+    Adds z = try z (λ f. add_cell (system_in s) r f)
 
-    send-is : send (system_in s) r k ts ≡ Adds (crossed_of b s.links s.counts x)
+    send-is : send (system_in s) r k ts ≡ Adds (crossed_of b s.links s.counts y)
     unfolding send
     send-is = ap (λ (f : Reference). try (cross_layers true f r ts) (λ g. add_cell (system_in s) r g)) leaving-is ∙ ap Adds (sym crossed)
 
-    pub send-refused : (x.refusal ≡ 0 → ⊥) → (q : Served) → q ≡ refusal (with_types s b) x.refusal → Step s (send (system_in s) r k ts) q × Went s q.state
-    send-refused z q e = (
-      refuses-kept h leaves.long leaves.kept (send-is ∙ ap Adds (refused-is b s.links s.counts x z)) e,
-      subst (λ (y : Served). Went s y.state) (sym e) (went-types s b),
+    pub send-refused : (e : Refusal) → y ≡ Err e → (q : Served) → q ≡ refusal (with_types s b) e → Step s (send (system_in s) r k ts) q × Went s q.state
+    send-refused e z q u = (
+      refuses-kept h leaves.long leaves.kept (send-is ∙ ap (λ (o : Either Crossed Refusal). Adds (crossed_of b s.links s.counts o)) z) u,
+      subst (λ (o : Served). Went s o.state) (sym u) (went-types s b),
     )
 
-    module _ (z : x.refusal ≡ 0) where
+    module _ (x : Crossed) (z : y ≡ Ok x) where
+      came : Came s.counts s.places ty b x
+      came = IfOk-at_ok (λ (o : Crossed). Came s.counts s.places ty b o) z leaves.came
+
       pub send-arrives : Arrives s b x.types x.places x.ty x.place
-      send-arrives = let m = leaves.came z in record {
+      send-arrives = record {
         sound = h;
         long = leaves.long;
-        grew = m.types;
+        grew = came.types;
         kept = leaves.kept;
-        descending = m.descending;
-        typed = m.typed h.typed;
-        more = m.before.more;
-        ty = m.ty (subst (λ (n : ℕ). n < s.counts.types) (sym type-at) inside.type);
-        place = m.place;
+        descending = came.descending;
+        typed = came.typed h.typed;
+        more = came.before.more;
+        ty = came.ty (subst (λ (n : ℕ). n < s.counts.types) (sym type-at) inside.type);
+        place = came.place;
       }
 
-      pub send-adds : (q : Served) → Step s (add_cell (system_in s) r Arrived) q → Step s (send (system_in s) r k ts) q × Went s q.state
+      pub send-adds : (q : Served) → Step s (add_cell (system_in s) r (arrived s b x.types x.places x.ty x.place)) q → Step s (send (system_in s) r k ts) q × Went s q.state
       send-adds q g = (
-        step-as (send-is ∙ ap Adds (came-is b s.links s.counts x z)) g,
-        added_goes s r Arrived (let n : length (places_in x.places) ≡ x.places.count = places-length x.places in let m = (leaves.came z).before.more in omega arith) q g,
+        step-as (send-is ∙ ap (λ (o : Either Crossed Refusal). Adds (crossed_of b s.links s.counts o)) z) g,
+        added_goes s r (arrived s b x.types x.places x.ty x.place) (let n : length (places_in x.places) ≡ x.places.count = places-length x.places in let m = came.before.more in omega arith) q g,
       )
 
 -- ---- One argument.
 module _ (s : State) (h : Sound s) (r : ℕ) (ls : List ℕ) (m i a : ℕ) (v : ℤ) (ts : List (Option ℕ))
     (are : (l : List ℕ) → ts ≡ map (argument_at (table_in s.types l s.counts) m i) ls) (q : Bool)
     (kind : q ≡ ref_in s.counts.types s.types a) where
-  abbrev Either : Bool → List (Option ℕ) → Table → Res (System × Result)
-  Either y os t = elim y [ true ↦ send (system_in s) r (named v) os | false ↦ try (pass_layers true t v os) λ _. ok (system_in s, nothing) ]
+  abbrev Either-by : Bool → List (Option ℕ) → Table → Res (System × Result)
+  Either-by y os t = elim y [ true ↦ send (system_in s) r (named v) os | false ↦ try (pass_layers true t v os) λ _. ok (system_in s, nothing) ]
 
-  argument_is : send_argument (system_in s) r ls m i a v ≡ Either q ts (table_in s.types s.links s.counts)
+  argument_is : send_argument (system_in s) r ls m i a v ≡ Either-by q ts (table_in s.types s.links s.counts)
   argument_is =
-      ap (λ (t : Table). Either (is_ref (type_at t a).rep) (map (argument_at t m i) ls) t) (table_is s)
-      ∙ ap (λ (y : Bool). Either y (map (argument_at (table_in s.types s.links s.counts) m i) ls) (table_in s.types s.links s.counts))
+      ap (λ (t : Table). Either-by (is_ref (type_at t a).rep) (map (argument_at t m i) ls) t) (table_is s)
+      ∙ ap (λ (y : Bool). Either-by y (map (argument_at (table_in s.types s.links s.counts) m i) ls) (table_in s.types s.links s.counts))
       (ref-table s.types s.links s.counts a ∙ sym kind)
-      ∙ ap (λ (os : List (Option ℕ)). Either q os (table_in s.types s.links s.counts)) (sym (are s.links))
+      ∙ ap (λ (os : List (Option ℕ)). Either-by q os (table_in s.types s.links s.counts)) (sym (are s.links))
 
   abbrev Goes : Served → Type 0
   Goes y = Step s (send_argument (system_in s) r ls m i a v) y × Went s y.state
 
   pub argument-sent : q ≡ true → (y : Served) → Step s (send (system_in s) r (named v) ts) y × Went s y.state → Goes y
   argument-sent z y k = (
-    step-as (argument_is ∙ ap (λ (w : Bool). Either w ts (table_in s.types s.links s.counts)) z) k.0,
+    step-as (argument_is ∙ ap (λ (w : Bool). Either-by w ts (table_in s.types s.links s.counts)) z) k.0,
     k.1,
   )
 
-  module _ (z : q ≡ false) (e : ℕ) (passed : (l : List ℕ) → passed_of e ≡ pass_layers true (table_in s.types l s.counts) v ts) where
-    abbrev Passed : Bool → Res (System × Result)
-    Passed y = try {A = Unit {0}} (elim y [ false ↦ refuse e | true ↦ ok tt ]) λ _. ok (system_in s, nothing)
+  module _ (z : q ≡ false) (e : Either (Unit {0}) Refusal) (passed : (l : List ℕ) → passed_of e ≡ pass_layers true (table_in s.types l s.counts) v ts) where
+    abbrev Passed : Either (Unit {0}) Refusal → Res (System × Result)
+    Passed y = try (passed_of y) λ _. ok (system_in s, nothing)
 
-    number_is : send_argument (system_in s) r ls m i a v ≡ Passed (eqb e 0)
-    number_is = argument_is ∙ ap (λ (w : Bool). Either w ts (table_in s.types s.links s.counts)) z
+    number_is : send_argument (system_in s) r ls m i a v ≡ Passed e
+    number_is = argument_is ∙ ap (λ (w : Bool). Either-by w ts (table_in s.types s.links s.counts)) z
         ∙ ap (λ (y : Res (Unit {0})). try y (λ _. ok (system_in s, nothing))) (sym (passed s.links))
 
-    pub number-refused : (e ≡ 0 → ⊥) → (y : Served) → y ≡ refusal s e → Goes y
-    number-refused w y u = (refuses h (number_is ∙ ap Passed (ne_eqb e 0 w)) u, subst (λ (k : Served). Went s k.state) (sym u) (went-self s))
+    pub number-refused : (d : Refusal) → e ≡ Err d → (y : Served) → y ≡ refusal s d → Goes y
+    number-refused d w y u = (refuses h (number_is ∙ ap Passed w) u, subst (λ (k : Served). Went s k.state) (sym u) (went-self s))
 
-    pub number-passes : e ≡ 0 → Goes (record { outcome = Nothing; state = s })
-    number-passes w = (
-      step-as (number_is ∙ ap Passed (eq-eqb e 0 w)) (step-nothing s h),
+    pub number-passes : (u : Unit {0}) → e ≡ Ok u → Goes (record { outcome = Ok Nothing; state = s })
+    number-passes u w = (
+      step-as (number_is ∙ ap Passed w) (step-nothing s h),
       went-self s,
     )
 
@@ -288,21 +284,21 @@ module _ (s : System) (r : ℕ) (ls : List ℕ) (m : ℕ) (xs : List ℕ) (vs : 
     numbers-end e = sym w ∙ ap (send_arguments s r ls m i (drop i xs)) e ∙ sent-all s r ls m i (drop i xs)
 
     module _ (a : ℕ) (some : drop i xs ≡ a ∷ drop (i + 1) xs) (v : ℤ) (more : drop i vs ≡ v ∷ drop (i + 1) vs) (number : is_ref (type_at s.table a).rep ≡ false)
-        (e : ℕ) (passed : passed_of e ≡ pass_layers true s.table v (map (argument_at s.table m i) ls)) where
-      abbrev Behind : Bool → Res System
-      Behind y = try {A = Unit {0}} (elim y [ false ↦ refuse e | true ↦ ok tt ]) λ _. send_arguments s r ls m (suc i) (drop (i + 1) xs) (drop (i + 1) vs)
+        (e : Either (Unit {0}) Refusal) (passed : passed_of e ≡ pass_layers true s.table v (map (argument_at s.table m i) ls)) where
+      abbrev Behind : Either (Unit {0}) Refusal → Res System
+      Behind y = try (passed_of y) λ _. send_arguments s r ls m (suc i) (drop (i + 1) xs) (drop (i + 1) vs)
 
-      numbers-are : send_arguments s r ls m 0 xs vs ≡ Behind (eqb e 0)
+      numbers-are : send_arguments s r ls m 0 xs vs ≡ Behind e
       numbers-are =
           sym w ∙ ap (λ (ys : List ℕ). send_arguments s r ls m i ys (drop i vs)) some ∙ ap (send_arguments s r ls m i (a ∷ drop (i + 1) xs)) more
           ∙ number-first s r ls m i a (drop (i + 1) xs) v (drop (i + 1) vs) number
           ∙ ap (λ (y : Res (Unit {0})). try y (λ _. send_arguments s r ls m (suc i) (drop (i + 1) xs) (drop (i + 1) vs))) (sym passed)
 
-      pub numbers-stop : (e ≡ 0 → ⊥) → send_arguments s r ls m 0 xs vs ≡ refuse e
-      numbers-stop z = numbers-are ∙ ap Behind (ne_eqb e 0 z)
+      pub numbers-stop : (d : Refusal) → e ≡ Err d → send_arguments s r ls m 0 xs vs ≡ refuse (refusal_number d)
+      numbers-stop d z = numbers-are ∙ ap Behind z
 
-      pub numbers-next : e ≡ 0 → NumbersRest (i + 1)
-      numbers-next z = ap (λ (n : ℕ). send_arguments s r ls m n (drop (i + 1) xs) (drop (i + 1) vs)) (add-one i) ∙ sym (numbers-are ∙ ap Behind (eq-eqb e 0 z))
+      pub numbers-next : (u : Unit {0}) → e ≡ Ok u → NumbersRest (i + 1)
+      numbers-next u z = ap (λ (n : ℕ). send_arguments s r ls m n (drop (i + 1) xs) (drop (i + 1) vs)) (add-one i) ∙ sym (numbers-are ∙ ap Behind z)
 
 -- the state of which the lent types and the counts are part has their table
 module _ (s : State) (b : List ℕ) (c : Counts) (t : s.types ≡ b) (n : s.counts ≡ c) where
@@ -312,7 +308,7 @@ module _ (s : State) (b : List ℕ) (c : Counts) (t : s.types ≡ b) (n : s.coun
   pub number_of : (a : ℕ) (q : Bool) → q ≡ ref_in c.types b a → q ≡ false → is_ref (type_at (system_in s).table a).rep ≡ false
   number_of a q is z = ap (λ (x : Table). is_ref (type_at x a).rep) table-of ∙ ref-table b s.links c a ∙ sym is ∙ z
 
-  pub passed-of : (e m i : ℕ) (v : ℤ) (ls : List ℕ) (ts : List (Option ℕ)) → ((l : List ℕ) → ts ≡ map (argument_at (table_in b l c) m i) ls) →
+  pub passed-of : (e : Either (Unit {0}) Refusal) (m i : ℕ) (v : ℤ) (ls : List ℕ) (ts : List (Option ℕ)) → ((l : List ℕ) → ts ≡ map (argument_at (table_in b l c) m i) ls) →
       ((l : List ℕ) → passed_of e ≡ pass_layers true (table_in b l c) v ts) → passed_of e ≡ pass_layers true (system_in s).table v (map (argument_at (system_in s).table m i) ls)
   passed-of e m i v ls ts are is =
       is s.links ∙ ap (pass_layers true (table_in b s.links c) v) (are s.links) ∙ ap (λ (x : Table). pass_layers true x v (map (argument_at x m i) ls)) (sym table-of)
@@ -342,13 +338,13 @@ module _ (s₀ : State) (r : ℕ) (ls : List ℕ) (m : ℕ) (xs : List ℕ) (vs 
     pub sends-room : 0 < s₀.places.count → 0 < s₀.counts.types → (0 < s.places.count) × (0 < s.counts.types)
     sends-room p t = (omega (arith, p, w.went.places), omega (arith, t, w.stored.grew.more))
 
-    done : Rest (system_in s) i (drop i xs) (drop i vs) ≡ ok (system_in s, nothing) → Done (record { outcome = Nothing; state = s })
+    done : Rest (system_in s) i (drop i xs) (drop i vs) ≡ ok (system_in s, nothing) → Done (record { outcome = Ok Nothing; state = s })
     done e = record { is = sym e ∙ w.rest; stored = w.stored; sound = w.sound; went = w.went }
 
-    pub sends-over : drop i xs ≡ [] → Done (record { outcome = Nothing; state = s })
+    pub sends-over : drop i xs ≡ [] → Done (record { outcome = Ok Nothing; state = s })
     sends-over e = done (ap (λ (ys : List ℕ). Rest (system_in s) i ys (drop i vs)) e ∙ ap all_sent (sent-over (system_in s) r ls m i (drop i vs)))
 
-    pub sends-end : drop i vs ≡ [] → Done (record { outcome = Nothing; state = s })
+    pub sends-end : drop i vs ≡ [] → Done (record { outcome = Ok Nothing; state = s })
     sends-end e = done (ap (Rest (system_in s) i (drop i xs)) e ∙ ap all_sent (sent-all (system_in s) r ls m i (drop i xs)))
 
     module _ (a : ℕ) (some : drop i xs ≡ a ∷ drop (i + 1) xs) (v : ℤ) (more : drop i vs ≡ v ∷ drop (i + 1) vs)
@@ -361,21 +357,19 @@ module _ (s₀ : State) (r : ℕ) (ls : List ℕ) (m : ℕ) (xs : List ℕ) (vs 
           sym w.rest ∙ ap (λ (ys : List ℕ). Rest (system_in s) i ys (drop i vs)) some ∙ ap (Rest (system_in s) i (a ∷ drop (i + 1) xs)) more
           ∙ ap all_sent (send-step (system_in s) r ls m i a (drop (i + 1) xs) v (drop (i + 1) vs) ∙ ap (λ (y : Res (System × Result)). try y (λ x. After x.0)) (sym k.is))
 
-      pub sends-stop : is_accepted q.outcome ≡ false → Done q
-      sends-stop z = record {
-        is = stopped q.outcome z ∙ sym go_on;
+      pub sends-stop : (e : Refusal) → q.outcome ≡ Err e → Done (record { outcome = Err e; state = q.state })
+      sends-stop e z = record {
+        is = sym (go_on ∙ ap (λ (o : Outcome). all_sent (try (served_with (system_in q.state) (outcome_of o)) (λ x. After x.0))) z);
         stored = stored_on s₀ s q.state w.stored k.stored;
         sound = k.sound;
         went = went_on s₀ s q.state w.went g;
       }
-        where
-          stopped : (y : Outcome) → is_accepted y ≡ false → served_with (system_in q.state) (outcome_of y) ≡ all_sent (try (served_with (system_in q.state) (outcome_of y)) (λ x. After x.0))
-          stopped = only-refused (λ (y : Outcome). served_with (system_in q.state) (outcome_of y) ≡ all_sent (try (served_with (system_in q.state) (outcome_of y)) (λ x. After x.0))) (λ e. refl)
 
-      pub sends-next : is_accepted q.outcome ≡ true → Sends q.state (i + 1)
-      sends-next z = record {
+      pub sends-next : (y : Answer) → q.outcome ≡ Ok y → Sends q.state (i + 1)
+      sends-next y z = record {
         sound = k.sound;
         stored = stored_on s₀ s q.state w.stored k.stored;
         went = went_on s₀ s q.state w.went g;
-        rest = ap (λ (n : ℕ). Rest (system_in q.state) n (drop (i + 1) xs) (drop (i + 1) vs)) (add-one i) ∙ sym (go_on ∙ ap all_sent (goes_on q.outcome (system_in q.state) After z));
+        rest = ap (λ (n : ℕ). Rest (system_in q.state) n (drop (i + 1) xs) (drop (i + 1) vs)) (add-one i)
+            ∙ sym (go_on ∙ ap (λ (o : Outcome). all_sent (try (served_with (system_in q.state) (outcome_of o)) (λ x. After x.0))) z);
       }

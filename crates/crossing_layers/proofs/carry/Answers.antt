@@ -1,48 +1,23 @@
 use native.Mathlib.Omega.{arith}
 use borrow.Author.Rules.{rules}
-use mathlib.Core.Path.{refl}
-use Rattle.crossing_layers.proofs.Carrying.{goes-starts, goes-ready, goes-ends, goes-stops, goes-next}
+use mathlib.Core.Path.{◌≡◌}
+use lib.ListN.{length}
+use Rattle.std.proofs.lemmas.Result.{err_from_is_err_and}
+use Rattle.crossing_targets.specs.Targets.{max_layers}
+use Rattle.crossing_layers.proofs.Carrying.{goes-ends, goes-stops, goes-next}
 use Rattle.crossing_layers.proofs.carry.Goals as goal
 
-pub loop-i-init : goal.loop-i-init
-loop-i-init c = let a = c.args in goes-starts a.types.now a.links.now a.c a.ps a.s a.p a.r a.targets.list a.targets.count c.requires.0 c.requires.1
-
-pub offset_bounds-targets-i : goal.offset_bounds-targets-i
-offset_bounds-targets-i c = omega (arith, c.loop-i-test.true, c.requires.2)
-
-pub bounds-targets-i : goal.bounds-targets-i
-bounds-targets-i c = omega (arith, c.loop-i-test.true, c.requires.2)
-
-pub carry_one-x-requires : goal.carry_one-x-requires
-carry_one-x-requires c = let a = c.args in let w = c.loop-i in goes-ready a.types.now a.links.now a.c a.ps a.s
-    a.p a.r a.targets.list a.targets.count c.requires.0 w.types w.x w.i w.invariant
-
-pub returns-then-x-ne0 : goal.returns-then-x-ne0
-returns-then-x-ne0 c =
-    let a = c.args in
-    let w = c.loop-i in let all-parts =
-    goes-stops a.types.now a.links.now a.c a.ps a.s a.p a.r a.targets.list a.targets.count
-    c.requires.0 w.types w.x w.i w.invariant ((search rules))
-    c.requires.2 c.loop-i-test.true _ refl c.carry_one-x.new.types c.carry_one-x.result
-    c.carry_one-x.ensures.is
-    c.carry_one-x.ensures.leaves c.if-x-ne0.true in record { is = all-parts.0; leaves = all-parts.1 }
-
-pub overflow_add-i : goal.overflow_add-i
-overflow_add-i c = omega (arith, c.loop-i-test.true, c.requires.2)
-
-pub loop-i-smaller : goal.loop-i-smaller
-loop-i-smaller c = omega (arith, c.loop-i-test.true)
+pub returns-in_err-x-clause-is : goal.returns-in_err-x-clause-is
+returns-in_err-x-clause-is c = let a = c.args in let w = c.loop-i in let long : length a.targets.list ≡ max_layers = search rules in
+    let p = err_from_is_err_and c.from_residual.result c.from_residual.ensures.1 in
+    rw (p.1, p.2) ((goes-stops a.types.now a.links.now a.c a.ps a.s a.p a.r a.targets.list a.targets.count c.requires.0 w.types w.x w.i w.invariant
+    (omega (arith, c.requires.2)) c.loop-i-test.true c.carry_one.new.types c.carry_one.result c.carry_one.ensures.is c.carry_one.ensures.leaves _ c.in_err-x.was).0)
 
 pub loop-i-preserved : goal.loop-i-preserved
-loop-i-preserved c =
-    let a = c.args in
-    let w = c.loop-i in
-    goes-next a.types.now a.links.now a.c a.ps a.s a.p a.r a.targets.list a.targets.count
-    c.requires.0 w.types w.x w.i w.invariant ((search rules))
-    c.requires.2 c.loop-i-test.true _ refl c.carry_one-x.new.types c.carry_one-x.result
-    c.carry_one-x.ensures.is
-    c.carry_one-x.ensures.leaves c.if-x-ne0.false
+loop-i-preserved c = let a = c.args in let w = c.loop-i in let long : length a.targets.list ≡ max_layers = search rules in
+    goes-next a.types.now a.links.now a.c a.ps a.s a.p a.r a.targets.list a.targets.count c.requires.0 w.types w.x w.i w.invariant
+    (omega (arith, c.requires.2)) c.loop-i-test.true c.carry_one.new.types c.carry_one.result c.carry_one.ensures.is c.carry_one.ensures.leaves _ c.in_ok-x.was
 
-pub returns : goal.returns
-returns c = let a = c.args in let w = c.loop-i in let all-parts = goes-ends a.types.now a.links.now a.c a.ps a.s a.p a.r a.targets.list
-    a.targets.count c.requires.0 w.types w.x w.i w.invariant c.loop-i-test.false in record { is = all-parts.0; leaves = all-parts.1 }
+pub returns-clause-is : goal.returns-clause-is
+returns-clause-is c = let a = c.args in let w = c.loop-i in
+    (goes-ends a.types.now a.links.now a.c a.ps a.s a.p a.r a.targets.list a.targets.count c.requires.0 w.types w.x w.i w.invariant c.loop-i-test.false).0
