@@ -11,20 +11,13 @@ ghost use Rattle.text_write.specs.Fill.{Filled, Lined};
 
 use base_numbers::refusal::Refusal;
 use doors_hold::{Counts, TIMES};
-use text_write::{put_number, write_number, write_word};
+use text_write::{Printed, put_number, write_number, write_word};
 
 // The longest input that is read (P1).
 const INPUT_BYTES: usize = 32768;
 
 // Room for what is printed: a line of at most 109 bytes.
 pub const PRINTED_BYTES: usize = 128;
-
-// What is printed: the first `length` bytes of `text`. Kept: fixed memory, no heap.
-#[derive(Clone, Copy)]
-pub struct Printed {
-    pub length: usize,
-    pub text: [u8; PRINTED_BYTES],
-}
 
 // What comes of the input's lines. More times than there is room for are more than V1 allows.
 fn hold_lines(s: &[u8]) -> Result<Counts, Refusal>
@@ -82,7 +75,7 @@ fn put_report(buf: &mut [u8], s: &[u8]) -> usize
 }
 
 // What the program prints for any input. `within` says what `&text[..length]` asks.
-pub fn report(s: &[u8]) -> Printed
+pub fn report(s: &[u8]) -> Printed<PRINTED_BYTES>
     ensures is { take result.length result.text ≡ doors_output s.now }
     ensures within { (result.length ≤ length result.text) × (result.length ≡ length (take result.length result.text)) }
 {

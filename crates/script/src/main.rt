@@ -3,23 +3,19 @@
 // Where input or output fails it says so on the error stream; of an input that could not be read to its end nothing is printed.
 #![tactic(auto)]
 
-use base_streams::Input;
 use script_output::{INPUT_BYTES, PRINTED_BYTES};
-use text_write::Wrote;
 
 fn main(rt: HostRuntime) {
     let mut stdin = rt.stdin();
     let mut stdout = rt.stdout();
     let mut stderr = rt.stderr();
     let mut input = [0u8; INPUT_BYTES + 1];
-    let read = base_streams::read_input(&mut stdin, &mut input);
-    let Input::Bytes(n) = read else {
+    let Ok(n) = base_streams::read_input(&mut stdin, &mut input) else {
         base_streams::complain(&mut stderr, b"script: cannot read standard input\n");
         return;
     };
     let mut out = [0u8; PRINTED_BYTES];
-    let w = script_output::script(&input[..n], &mut out);
-    let Wrote::Length(length) = w else {
+    let Ok(length) = script_output::script(&input[..n], &mut out) else {
         return;
     };
     base_streams::print(
