@@ -16,9 +16,11 @@ use Rattle.table_record.specs.declared.Counts.{Counts}
 use Rattle.table_record.specs.Store.{raw_method, empty_method, raw_table, types_in, links_in, with_count}
 use Rattle.table_record.proofs.Lists.{same_or}
 use Rattle.derive_type.specs.declared.Work.{Work}
-use Rattle.derive_type.specs.NewType.{new_record}
-use Rattle.derive_record.specs.declared.Derived.{Derived}
-use Rattle.derive_record.specs.declared.Derived.TheVariants.{Full, At}
+use Rattle.derive_type.specs.NewType.{kind_in, new_record}
+use Rattle.derive_type.proofs.Laws.{code-low}
+use Rattle.spec_model.specs.Records.{kind_code}
+use Rattle.derive_record.specs.Begins.{Derived}
+use Rattle.std.specs.Prelude.{None, Some}
 use Rattle.derive_sub_sup.specs.Link.{Coded, CodedTo, CodesStay}
 
 -- a test of the values of a rule, by their numbers
@@ -53,15 +55,15 @@ methods-coded ms sh i x r h j l =
     (second (ltb x.own 2) _ (applied (first (is_ref (rep_of x.rep) ⇒ _) _ (second (ltb x.rep 3) _ h)) r))) j (omega arith) (omega arith)
 
 -- a derived type
-pub new_coded : (ms sh n : ℕ) (w : Work) (zs : List RawMethod) → w.key.kind < 3 → ((j : ℕ) → j < ms → So (raw_method_fits (get_or zs j no_raw_method)))
+pub new_coded : (ms sh n : ℕ) (w : Work) (zs : List RawMethod) → ((j : ℕ) → j < ms → So (raw_method_fits (get_or zs j no_raw_method)))
     → So (raw_type_fits ms sh n (new_record w zs))
-new_coded ms sh n w zs k h =
+new_coded ms sh n w zs h =
     both (subst So (sym (all-every raw_method_fits 0 (from ms 0 (λ j. get_or zs j no_raw_method))))
     (from-every (λ _. raw_method_fits) (λ j. get_or zs j no_raw_method) ms 0 (λ j p q. h j (omega arith)))) (go (ltb n sh))
   where
-    go : (b : Bool) → So (b || ltb w.key.kind 3)
+    go : (b : Bool) → So (b || ltb (kind_code (kind_in w)) 3)
     go true = refl
-    go false = so-ltb k
+    go false = so-ltb (code-low (kind_in w))
 
 -- The counted records of a table in bytes: as the check of a table asks, and by their numbers.
 module _ (b l : List ℕ) (c : Counts) where
@@ -76,5 +78,5 @@ coded-codes b b' l c m h k = both (first (all (λ x. between 1 2 x.count) (from 
     (from-every (raw_type_fits c.methods c.sheet) (λ i. get_or (types_in b') i no_raw_type) m 0 (λ i p q. k i (omega arith)))
 
 pub codes-stay : (b b' : List ℕ) (c : Counts) (r : Derived) → (Coded c c.types b → CodedTo c b' r) → CodesStay c b b' r
-codes-stay b b' c Full h l k = tt
-codes-stay b b' c (At i m) h l k = coded-codes b b' l c m k (h (codes-coded b l c k))
+codes-stay b b' c None h l k = tt
+codes-stay b b' c (Some p) h l k = coded-codes b b' l c p.1 k (h (codes-coded b l c k))

@@ -1,5 +1,5 @@
 -- What the code's results and its bytes mean, in the words of the model.
-use Rattle.std.specs.Prelude.{◌≡◌, List, ℕ, ◌+◌, ◌*◌, ◌≤◌, ◌<◌, length, get_or, take, drop}
+use Rattle.std.specs.Prelude.{◌≡◌, List, ℕ, ◌+◌, ◌*◌, ◌≤◌, ◌<◌, None, Some, length, get_or, take, drop}
 use Rattle.std.proofs.Math.Bool.{So}
 use Rattle.std.proofs.Math.Option.{Option, none, some}
 use Rattle.spec_model.specs.Basics.{Res, refuse, ok}
@@ -12,9 +12,7 @@ use Rattle.table_record.specs.Store.{types_in, raw_table, table_in, with_count}
 use Rattle.table_record.specs.Records.{bytes_of}
 use Rattle.table_record.specs.Limits.{Limits}
 use Rattle.table_record.specs.Layout.{type_size, types_size}
-use Rattle.derive_record.specs.declared.Derived.{Derived}
-use Rattle.derive_record.specs.declared.Derived.TheVariants.{Full, At}
-use Rattle.derive_record.specs.Begins.{Below, tabled}
+use Rattle.derive_record.specs.Begins.{Derived, Below, tabled}
 pub use Rattle.derive_sub_sup.specs.Bytes.{Writes}
 
 -- The 128 bytes of type i. Those below the count n stay as they are, also where the table is full.
@@ -33,8 +31,8 @@ Exact c n m b = (i : ℕ) → n ≤ i → i < m → ExactAt c b i
 
 -- The public result: a full table is refused with 11; else the number, and the table with so many types.
 abbrev pub derivation_in : List ℕ → List ℕ → Counts → Derived → Res (Table × ℕ)
-derivation_in b l c Full = refuse types_full
-derivation_in b l c (At i m) = ok (table_in b l (with_count c m), i)
+derivation_in b l c None = refuse types_full
+derivation_in b l c (Some p) = ok (table_in b l (with_count c p.1), p.0)
 
 -- What a derivation asks: counts within their limits, n being the types so far, and numbers that a byte can hold.
 pub record Ready (c : Counts) (n t s : ℕ) (b : List ℕ) : Type 0 where
@@ -45,13 +43,13 @@ pub record Ready (c : Counts) (n t s : ℕ) (b : List ℕ) : Type 0 where
 
 -- the same up to the new count
 abbrev pub ExactTo : Counts → ℕ → List ℕ → Derived → Type 0
-ExactTo c n b Full = Unit {0}
-ExactTo c n b (At i m) = Exact c n m b
+ExactTo c n b None = Unit {0}
+ExactTo c n b (Some p) = Exact c n p.1 b
 
 -- the count grows, within its limit
 abbrev pub Sized : ℕ → ℕ → ℕ → Derived → Type 0
-Sized n t s Full = Unit {0}
-Sized n t s (At i m) = (n ≤ m) × (m ≤ max_types) × Below t s m i
+Sized n t s None = Unit {0}
+Sized n t s (Some p) = (n ≤ p.1) × (p.1 ≤ max_types) × Below t s p.1 p.0
 
 pub record Leaves (n t s : ℕ) (b b' : List ℕ) (r : Derived) : Type 0 where
   pub long : length b' ≡ types_size
@@ -63,13 +61,13 @@ abbrev pub Coded : Counts → ℕ → List ℕ → Type 0
 Coded c n b = (i : ℕ) → i < n → So (raw_type_fits c.methods c.sheet i (get_or (types_in b) i no_raw_type))
 
 abbrev pub CodedTo : Counts → List ℕ → Derived → Type 0
-CodedTo c b Full = Unit {0}
-CodedTo c b (At i m) = Coded c m b
+CodedTo c b None = Unit {0}
+CodedTo c b (Some p) = Coded c p.1 b
 
 -- The same of the whole table: where its codes name something before, they do after, whatever its links are.
 abbrev pub CodesIn : List ℕ → List ℕ → Counts → Derived → Type 0
-CodesIn b l c Full = Unit {0}
-CodesIn b l c (At i m) = So (codes_fit (raw_table b l (with_count c m)))
+CodesIn b l c None = Unit {0}
+CodesIn b l c (Some p) = So (codes_fit (raw_table b l (with_count c p.1)))
 
 abbrev pub CodesStay : Counts → List ℕ → List ℕ → Derived → Type 0
 CodesStay c b b' r = (l : List ℕ) → So (codes_fit (raw_table b l c)) → CodesIn b' l c r
@@ -85,8 +83,8 @@ pub record Derives (d : Kind) (c : Counts) (t s : ℕ) (b b' : List ℕ) (r : De
 
 -- What the result and the bytes left say of the table whose types are the first n of the bytes.
 abbrev pub derived_in : Table → Counts → Derived → List ℕ → Option (Table × ℕ)
-derived_in t c Full b = none
-derived_in t c (At i m) b = some (tabled t c m b, i)
+derived_in t c None b = none
+derived_in t c (Some p) b = some (tabled t c p.1 b, p.0)
 
 -- The contract of the recursion: the result is the model's, whatever else there is in the table, and for every fuel of at least the free numbers.
 pub record Gives (d : Kind) (c : Counts) (n t s : ℕ) (b b' : List ℕ) (r : Derived) : Type 0 where

@@ -7,53 +7,45 @@ ghost use Rattle.std.specs.Prelude.{◌≡◌};
 ghost use Rattle.spec_model.specs.Table.{sub, sup};
 ghost use Rattle.derive_sub_sup.specs.Link.{Ready, Derives, Gives};
 
-use derive_record::{Begun, Derived};
+use derive_record::Derived;
 use derive_slots::{METHOD_SLOTS, SLOT_BYTES, Slot};
-use table_record::{Counts, Key, TYPE_BYTES};
+use table_record::{Counts, Key, Kind, TYPE_BYTES};
 
 // Sub(T,S), n being the types so far: arguments by Sup, answers by Sub (D5, D17).
+// Kept: F1 asks that Sub and Sup are two functions that call each other, so each has the loop.
 #[cycle(sub_sup)]
 pub fn sub(b: &mut [u8; TYPE_BYTES], c: Counts, n: usize, t: usize, s: usize) -> Derived
     requires { Ready c n t s b.old }
     ensures { Gives sub c n t s b.old b.new result }
 {
-    let begun = derive_record::begin(b, c, n, Key::SUB, t, s);
-    if let Begun::Settled(answer) = begun {
+    let key = Key {
+        kind: Kind::Sub,
+        left: t,
+        right: s,
+    };
+    if let Some(answer) = derive_record::begin(b, c, n, key) {
         return answer;
     }
-    let w = derive_record::start(b, n, Key::SUB, t, s);
-    let end = c.methods * METHOD_SLOTS;
+    let w = derive_record::start(b, n, key);
     let mut bytes = [0u8; SLOT_BYTES];
     let mut m = n + 1;
-    let mut k: usize = 0;
-    while k < end {
-        let key = Key {
-            kind: Key::SUB,
-            left: t,
-            right: s,
-        };
+    for k in 0..c.methods * METHOD_SLOTS {
         match derive_slots::slot_at(b, key, k) {
-            Slot::Empty => k += 1,
-            Slot::Argument(l1, r1) => {
-                let Derived::At(i1, m1) = sup(b, c, m, l1, r1) else {
-                    return Derived::Full;
-                };
-                bytes[k] = base_numbers::narrow(i1);
-                m = m1;
-                k += 1;
+            Slot::Empty => {}
+            Slot::Argument(l, r) => {
+                let (i, count) = sup(b, c, m, l, r)?;
+                bytes[k] = i as u8;
+                m = count;
             }
-            Slot::Answer(l2, r2) => {
-                let Derived::At(i2, m2) = sub(b, c, m, l2, r2) else {
-                    return Derived::Full;
-                };
-                bytes[k] = base_numbers::narrow(i2 + 1);
-                m = m2;
-                k += 1;
+            Slot::Answer(l, r) => {
+                let (i, count) = sub(b, c, m, l, r)?;
+                bytes[k] = (i + 1) as u8;
+                m = count;
             }
         }
     }
-    derive_record::finish(b, n, w, c.methods, bytes);
-    Derived::At(n, m)
+    derive_record::finish(b, n, &w, c.methods, &bytes);
+    Some((n, m))
 }
 
 // Sup(T,S): arguments by Sub, answers by Sup (D6, D17).
@@ -62,43 +54,34 @@ pub fn sup(b: &mut [u8; TYPE_BYTES], c: Counts, n: usize, t: usize, s: usize) ->
     requires { Ready c n t s b.old }
     ensures { Gives sup c n t s b.old b.new result }
 {
-    let begun = derive_record::begin(b, c, n, Key::SUP, t, s);
-    if let Begun::Settled(answer) = begun {
+    let key = Key {
+        kind: Kind::Sup,
+        left: t,
+        right: s,
+    };
+    if let Some(answer) = derive_record::begin(b, c, n, key) {
         return answer;
     }
-    let w = derive_record::start(b, n, Key::SUP, t, s);
-    let end = c.methods * METHOD_SLOTS;
+    let w = derive_record::start(b, n, key);
     let mut bytes = [0u8; SLOT_BYTES];
     let mut m = n + 1;
-    let mut k: usize = 0;
-    while k < end {
-        let key = Key {
-            kind: Key::SUP,
-            left: t,
-            right: s,
-        };
+    for k in 0..c.methods * METHOD_SLOTS {
         match derive_slots::slot_at(b, key, k) {
-            Slot::Empty => k += 1,
-            Slot::Argument(l1, r1) => {
-                let Derived::At(i1, m1) = sub(b, c, m, l1, r1) else {
-                    return Derived::Full;
-                };
-                bytes[k] = base_numbers::narrow(i1);
-                m = m1;
-                k += 1;
+            Slot::Empty => {}
+            Slot::Argument(l, r) => {
+                let (i, count) = sub(b, c, m, l, r)?;
+                bytes[k] = i as u8;
+                m = count;
             }
-            Slot::Answer(l2, r2) => {
-                let Derived::At(i2, m2) = sup(b, c, m, l2, r2) else {
-                    return Derived::Full;
-                };
-                bytes[k] = base_numbers::narrow(i2 + 1);
-                m = m2;
-                k += 1;
+            Slot::Answer(l, r) => {
+                let (i, count) = sup(b, c, m, l, r)?;
+                bytes[k] = (i + 1) as u8;
+                m = count;
             }
         }
     }
-    derive_record::finish(b, n, w, c.methods, bytes);
-    Derived::At(n, m)
+    derive_record::finish(b, n, &w, c.methods, &bytes);
+    Some((n, m))
 }
 
 // Sub(T,S), in the table of these bytes and counts.

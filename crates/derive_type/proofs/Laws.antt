@@ -12,7 +12,7 @@ use borrow.Author.Tests.{le-ltb}
 use Rattle.spec_model.specs.Table.{Kind, sub, sup, closed, permit, max_arguments, max_methods}
 use Rattle.spec_model.specs.Table as model
 use Rattle.spec_model.specs.Restriction.{restricted}
-use Rattle.spec_model.specs.Check.{RawMethod, no_raw_method, state_of, method_of}
+use Rattle.spec_model.specs.Check.{RawMethod, no_raw_method, state_of, kind_of, method_of}
 use Rattle.spec_model.proofs.Rules.{both, second, imply, applied}
 use Rattle.spec_model.proofs.Tests.{so-ltb, leb-so, so-leb}
 use Rattle.spec_model.specs.Records.{argument_slots, kind_code}
@@ -102,7 +102,12 @@ module _ (d : Kind) (p q : RawMethod) where
             let u = min-le_left (min p.count q.count) argument_slots in
             let v = min-le_left p.count q.count in omega arith
 
-code-low : (d : Kind) → kind_code d < 3
+pub code-back : (d : Kind) → kind_of (kind_code d) ≡ d
+code-back sub = refl
+code-back sup = refl
+code-back closed = refl
+
+pub code-low : (d : Kind) → kind_code d < 3
 code-low sub = omega arith
 code-low sup = omega arith
 code-low closed = omega arith
