@@ -2,14 +2,15 @@
 use mathlib.Core.Path.{◌≡◌, refl, sym, ap, ◌∙◌, subst}
 use mathlib.Core.Bool.{Bool, true, false, ◌&&◌, ◌||◌, cond, and-false}
 use mathlib.Core.List.{List, [], ◌∷◌, map}
-use mathlib.Core.Option.{Option, none, some}
+use mathlib.Core.Option.{Option as Optionᵐ, none, some}
+use Rattle.std.specs.Prelude.{Option, Some, None, SomeIff}
 use Prim.Native.Nat.{ℕ, zero, suc, ◌+◌, ◌-◌, ◌≤◌, ◌<◌}
 use native.Mathlib.Numerals.{add-one}
 use native.Mathlib.Omega.{arith}
 use lib.IntN.{ℤ, pos}
 use lib.ListN.{length, get_or, drop, drop_of_length-le, replicate, length-replicate}
 use lib.Seq.{drop-cons}
-use Rattle.spec_model.specs.Basics.{Res, over, names, named, need, ok}
+use Rattle.spec_model.specs.Basics.{Res, over, names, named, need, refuse, ok}
 use Rattle.spec_model.specs.Table.{Table, type_at, method_at, is_ref, is_nil, permit}
 use Rattle.spec_model.specs.Records.{answer_code}
 use Rattle.spec_model.specs.Crossing.{max_places, place_at, place_type}
@@ -38,9 +39,8 @@ use Rattle.state_bytes_check.proofs.Laws.{read-accepted, accepted-codes}
 use Rattle.base_numbers.specs.Index.{index_of}
 use Rattle.base_numbers.proofs.Laws.{index-unknown, index-known}
 use Rattle.law_table.proofs.Methods.{method-is}
-use Rattle.state_offers.specs.declared.Offered.TheVariants.{Unfit}
-use Rattle.state_offers.specs.Chained.{methods_named, offers_named, offers_handed, offered_as}
-use Rattle.state_offers.specs.Steps.{permits_named, step_of, step_code, Within}
+use Rattle.state_offers.specs.Chained.{methods_named, offers_named, offers_handed}
+use Rattle.state_offers.specs.Steps.{code_of, permits_named, step_of, step_code, Within}
 
 -- ---- One method, as it is stored.
 module _ (b l : List ℕ) (c : Counts) where
@@ -72,8 +72,18 @@ module _ (b l : List ℕ) (c : Counts) where
         pub step-off : permit (state_of x.state) ≡ false → 0 ≡ step_code (table_in b l c) t z
         step-off q = sym (step_is ∙ rw q)
 
-        pub step-on : permit (state_of x.state) ≡ true → (v : ℕ) → v ≡ x.answer → v + 1 ≡ step_code (table_in b l c) t z
-        step-on q v k = add-one v ∙ ap suc (k ∙ sym (code-back x.answer)) ∙ sym (step_is ∙ rw q)
+        pub step-on : permit (state_of x.state) ≡ true → suc x.answer ≡ step_code (table_in b l c) t z
+        step-on q = ap suc (sym (code-back x.answer)) ∙ sym (step_is ∙ rw q)
+
+-- an answer's code, less one where there is an answer
+pub code-less : (r : Option ℕ) (n : ℕ) → SomeIff r (1 ≤ n) (n - 1) → code_of (Some r) ≡ suc n
+code-less None zero h = refl
+code-less None (suc n) h = absurd (h (omega arith))
+code-less (Some x) n h = omega (arith, h.0, h.1)
+
+pub found : (o : Option ℕ) → code_of (Some o) ≡ 0 → ⊥
+found None h = omega (arith, h)
+found (Some k) h = omega (arith, h)
 
 -- ---- A chain: what is left of it behind a method whose code is known.
 abbrev onward : Table → ℕ → List ℤ → Bool
@@ -85,7 +95,7 @@ step-says : (t : Table) (n : ℕ) (z : ℤ) (w : List ℤ) → permits_named t n
 unfolding permits_named permits
 step-says t n z w = go (names z t.methods) (is_ref (type_at t n).rep) (permit (method_at t n (named z)).state) (method_at t n (named z)).answer w
   where
-    go : (k r p : Bool) (o : Option ℕ) (w : List ℤ) → ((k && methods_named t w) && (r && (p && (is_nil (map named w) || over o (λ a. permits t a (map named w))))))
+    go : (k r p : Bool) (o : Optionᵐ ℕ) (w : List ℤ) → ((k && methods_named t w) && (r && (p && (is_nil (map named w) || over o (λ a. permits t a (map named w))))))
         ≡ onward t (cond (k && (r && p)) (suc (answer_code o)) 0) w
     go false r p o w = refl
     go true false p o w = and-false (methods_named t w)
@@ -129,10 +139,8 @@ module _ (T : Table) (w : List ℤ) (t at i : ℕ) (h : Rest T w t at i) (k : i 
       pub rest-silent : a ≡ 1 → false ≡ permits_named T t w
       rest-silent y = sym not-nil ∙ ap (λ (n : ℕ). onward T n (drop (i + 1) w)) (sym y) ∙ rest-on
 
-      pub rest-next : (a ≡ 1 → ⊥) → Rest T w t (a - 2) (i + 1)
-      rest-next y =
-          let e₂ : a ≡ suc (suc (a - 2)) = omega arith in
-          ap (λ (q : Bool). q || permits_named T (a - 2) (drop (i + 1) w)) (sym not-nil) ∙ ap (λ (n : ℕ). onward T n (drop (i + 1) w)) (sym e₂) ∙ rest-on
+      pub rest-next : (k : ℕ) → a ≡ suc (suc k) → Rest T w t k (i + 1)
+      rest-next k y = ap (λ (q : Bool). q || permits_named T k (drop (i + 1) w)) (sym not-nil) ∙ ap (λ (n : ℕ). onward T n (drop (i + 1) w)) (sym y) ∙ rest-on
 
 -- ---- A cell.
 both-types : (a p q : Bool) → (a && (p && q)) ≡ ((a && p) && (a && q))
@@ -240,7 +248,7 @@ module _ (f : Flat) (z : ℤ) (w : List ℤ) where
   abbrev asked : Bool → System → Res Bool
   asked b s = need b out_of_range λ _. ok (offers_named s z w)
 
-  pub handed-unfit : system_accepted (raw_flat f) ≡ false → offered_as Unfit ≡ offers_handed (raw_flat f) z w
+  pub handed-unfit : system_accepted (raw_flat f) ≡ false → refuse out_of_range ≡ offers_handed (raw_flat f) z w
   unfolding offers_handed
   handed-unfit h = sym (ap (λ (b : Bool). asked b (system_of (raw_flat f))) h)
 

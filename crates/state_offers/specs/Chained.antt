@@ -1,13 +1,13 @@
 -- What is offered to one who hands in a state, the number of a cell and a chain, all of them any numbers (E11).
-use Rattle.std.specs.Prelude.{Bool, true, false, ◌&&◌, List, map, ℤ, length}
-use Rattle.spec_model.specs.Basics.{Res, refuse, ok, need, all, names, named}
+use Rattle.std.specs.Prelude.{Bool, ◌&&◌, List, map, ℤ, length, Result}
+use Rattle.spec_model.specs.Basics.{Res, ok, need, all, names, named}
 use Rattle.spec_model.specs.Table.{Table}
 use Rattle.spec_model.specs.Requests.{System}
 use Rattle.spec_model.specs.Chains.{offered}
 use Rattle.spec_model.specs.Check.{RawSystem, system_of, system_accepted}
 use Rattle.spec_model.specs.Refusals.{out_of_range}
-use Rattle.state_offers.specs.declared.Offered.{Offered}
-use Rattle.state_offers.specs.declared.Offered.TheVariants.{Unfit, Yes, No}
+use Rattle.base_numbers.specs.declared.refusal.Refusal.{Refusal}
+use Rattle.base_numbers.specs.Refusal.{res_by}
 
 -- every number of a chain names a method (L17)
 abbrev pub methods_named : Table → List ℤ → Bool
@@ -23,8 +23,6 @@ unfoldable pub offers_handed : RawSystem → ℤ → List ℤ → Res Bool
 unfolding system_accepted system_of offers_named
 offers_handed r k w = need (system_accepted r) out_of_range λ _. ok (offers_named (system_of r) k w)
 
--- what each result of the code says
-abbrev pub offered_as : Offered → Res Bool
-offered_as Unfit = refuse out_of_range
-offered_as Yes = ok true
-offered_as No = ok false
+-- what the result of the code says
+abbrev pub offered_as : Result Bool Refusal → Res Bool
+offered_as = res_by (λ b. b)

@@ -1,5 +1,5 @@
 -- What the functions find on the way to what is offered.
-use Rattle.std.specs.Prelude.{Bool, ◌&&◌, cond, List, map, ℕ, suc, ◌≤◌, ◌<◌, ℤ}
+use Rattle.std.specs.Prelude.{Bool, ◌&&◌, cond, Option, None, Some, List, map, ℕ, suc, ◌≤◌, ◌<◌, ℤ}
 use Rattle.spec_model.specs.Basics.{names, named}
 use Rattle.spec_model.specs.Table.{Table, Method, type_at, method_at, is_ref, permit}
 use Rattle.spec_model.specs.Records.{answer_code}
@@ -22,6 +22,12 @@ step_of known ref m = cond (known && (ref && permit m.state)) (suc (answer_code 
 
 abbrev pub step_code : Table → ℕ → ℤ → ℕ
 step_code t n z = step_of (names z t.methods) (is_ref (type_at t n).rep) (method_at t n (named z))
+
+-- what the code finds, as such a number
+abbrev pub code_of : Option (Option ℕ) → ℕ
+code_of None = 0
+code_of (Some None) = 1
+code_of (Some (Some k)) = suc (suc k)
 
 -- What the check leaves to be known of a state's bytes: a cell is found in its array, and its place in that of the places.
 pub record Within (cells counts : List ℕ) : Type 0 where

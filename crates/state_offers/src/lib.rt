@@ -9,37 +9,26 @@ ghost use Rattle.state_record.specs.View.{system_in};
 ghost use Rattle.state_bytes.specs.Flat.{flat, raw_flat};
 ghost use Rattle.state_bytes.specs.Records.{state_from};
 ghost use Rattle.state_offers.specs.Chained.{offers_named, offers_handed, offered_as};
-ghost use Rattle.state_offers.specs.Steps.{step_code, permits_named, Within};
+ghost use Rattle.state_offers.specs.Steps.{code_of, step_code, permits_named, Within};
 
-use base_numbers::wide;
+use base_numbers::refusal::Refusal;
 use state_bytes::{CALL_BYTES, CELL_BYTES, PLACE_BYTES};
 use table_record::{Counts, LINK_BYTES, TYPE_BYTES};
 
-// What a cell of a state handed in says of a chain; `Unfit` is 2, for a state that does not pass the check.
-#[derive(Clone, Copy)]
-pub enum Offered {
-    Unfit,
-    Yes,
-    No,
-}
-
-// One method of a chain, by type t (L16): 0 where it is not permitted; else 1 and the code of its answer type, which is 0 for none.
-fn after_method(types: &[u8; TYPE_BYTES], c: Counts, t: usize, z: i64) -> usize
+// One method of a chain, by type t (L16): nothing where it is not permitted; else its answer type, if it has one.
+fn after_method(types: &[u8; TYPE_BYTES], c: Counts, t: usize, z: i64) -> Option<Option<usize>>
     requires { Limits c }
-    ensures { (l : List ℕ) → result ≡ step_code (table_in types.now l c) t z }
+    ensures { (l : List ℕ) → code_of result ≡ step_code (table_in types.now l c) t z }
 {
     let m = base_numbers::index_of(z, c.methods);
-    if c.methods <= m {
-        return 0;
-    }
-    if !table_record::names_ref(types, c.types, t) {
-        return 0;
+    if c.methods <= m || !table_record::names_ref(types, c.types, t) {
+        return None;
     }
     let x = table_record::get_method(types, t, m);
     if !table_record::permits(x.state) {
-        return 0;
+        return None;
     }
-    wide(x.answer) + 1
+    Some(usize::from(x.answer).checked_sub(1))
 }
 
 // Whether type t permits a chain: each method by the answer type of the one before (L15 to L17).
@@ -48,21 +37,17 @@ fn type_permits(types: &[u8; TYPE_BYTES], c: Counts, t: usize, chain: &[i64]) ->
     ensures { (l : List ℕ) → result ≡ permits_named (table_in types.now l c) t chain.now }
 {
     let mut at = t;
-    let mut i: usize = 0;
-    while i < chain.len() {
-        let z = chain[i];
-        let a = after_method(types, c, at, z);
-        if a == 0 {
+    for (i, z) in chain.iter().enumerate() {
+        let Some(answer) = after_method(types, c, at, *z) else {
             return false;
-        }
-        i += 1;
-        if i == chain.len() {
+        };
+        if i + 1 == chain.len() {
             return true;
         }
-        if a == 1 {
+        let Some(next) = answer else {
             return false;
-        }
-        at = a - 2;
+        };
+        at = next;
     }
     table_record::names_ref(types, c.types, at)
 }
@@ -88,17 +73,14 @@ fn cell_offers(
         return false;
     }
     let x = state_bytes::cell_from(cells, k);
-    let p = state_bytes::place_from(places, wide(x.place));
-    let ty = wide(x.ty);
+    let p = state_bytes::place_from(places, usize::from(x.place));
+    let ty = usize::from(x.ty);
     let place_type = state_places::place_type(p);
     let c = state_bytes::counts_from(*counts);
-    if !type_permits(types, c, ty, chain) {
-        return false;
-    }
-    type_permits(types, c, place_type, chain)
+    type_permits(types, c, ty, chain) && type_permits(types, c, place_type, chain)
 }
 
-// On any state handed in: 2 before all else (E11).
+// On any state handed in: out of range before all else (E11).
 pub fn offers(
     types: &[u8; TYPE_BYTES],
     links: &[u8; LINK_BYTES],
@@ -108,7 +90,7 @@ pub fn offers(
     counts: &[usize; 8],
     cell: i64,
     chain: &[i64],
-) -> Offered
+) -> Result<bool, Refusal>
     ensures { offered_as result
         ≡ offers_handed
         (raw_flat
@@ -116,10 +98,7 @@ pub fn offers(
         chain.now }
 {
     if !state_bytes_check::bytes_fit(types, links, cells, places, calls, counts) {
-        return Offered::Unfit;
+        return Err(Refusal::OutOfRange);
     }
-    if cell_offers(types, cells, places, counts, cell, chain) {
-        return Offered::Yes;
-    }
-    Offered::No
+    Ok(cell_offers(types, cells, places, counts, cell, chain))
 }
