@@ -8,22 +8,19 @@ use native.Mathlib.Omega.{arith}
 use lib.Dec.{eqb}
 use lib.ListN.{length, get_or, take, drop}
 use borrow.Author.Tests.{ne_eqb}
-use Rattle.spec_model.specs.Basics.{Res, refuse, ok, try}
-use Rattle.spec_model.specs.Crossing.{Reference, cross}
-use Rattle.spec_model.specs.Requests.{at_layer, renumber, cross_layers}
-use Rattle.spec_model.specs.Refusals.{unrelated}
-use Rattle.std.specs.Prelude.{Some, None, Result, Ok, Err, IfOk}
+use Rattle.spec_model.specs.Basics.{Res, ok, try}
+use Rattle.spec_model.specs.Crossing.{Reference}
+use Rattle.spec_model.specs.Requests.{cross_layers}
+use Rattle.std.specs.Prelude.{None, Result, Ok, Err}
 use Rattle.std.specs.Prelude.{Option as Maybe}
 use Rattle.base_numbers.specs.declared.refusal.Refusal.{Refusal}
-use Rattle.base_numbers.specs.Refusal.{number_of}
 use Rattle.table_record.specs.declared.Counts.{Counts}
 use Rattle.table_record.specs.Store.{table_in, with_count}
-use Rattle.table_record.specs.Layout.{types_size}
 use Rattle.state_record.specs.Counted.{Places}
 use Rattle.state_record.specs.View.{places_in}
 use Rattle.crossing_meet.specs.declared.Crossed.{Crossed}
-use Rattle.crossing_meet.specs.Crossed.{Ready, PlaceKnown, reference, reference_of, crossed_of, Came, Leaves}
-use Rattle.crossing_meet.proofs.Laws.{ready_on, stops, leaves-on}
+use Rattle.crossing_meet.specs.Crossed.{Ready, reference, reference_of, crossed_of, Leaves}
+use Rattle.crossing_meet.proofs.Laws.{leaves-on}
 use Rattle.crossing_targets.specs.Targets.{option_of}
 use Rattle.crossing_targets.proofs.Laws.{rest-next, nothing_left}
 use Rattle.crossing_layers.specs.Carried.{cross_to}
@@ -47,30 +44,7 @@ module _ (b l : List ℕ) (c : Counts) (ps : Places) (s p r : ℕ) (list : List 
     pub carries : Leaves c ps s b b₁ (Ok x)
     pub rest : cross_layers (eqb i 0) (reference_of b₁ l c x) r (map option_of (drop i (take n list))) ≡ All
 
-  pub goes-starts : Ready l c b → PlaceKnown ps p → Goes b (record { ty = s; place = p; places = ps; types = c.types }) 0
-  goes-starts h k = record {
-    carries = record {
-      long = h.long;
-      kept = λ i q. refl;
-      came = record {
-        ty = λ k. k;
-        types = record { more = omega arith; room = h.checked.limits.types; exact = λ i u v. absurd (omega (arith, u, v)) };
-        descending = k.descending;
-        place = k.place;
-        typed = λ t. t;
-        before = record { more = omega arith; same = λ i q. refl };
-      };
-    };
-    rest = refl;
-  }
-
   module _ (h : Ready l c b) (b₁ : List ℕ) (x : Crossed) (i : ℕ) (w : Goes b₁ x i) where
-    came : Came c ps s b₁ x
-    came = w.carries.came
-
-    pub goes-ready : Ready l (with_count c x.types) b₁ × PlaceKnown x.places x.place
-    goes-ready = (ready_on l c x.types b b₁ h came.types w.carries.long, record { descending = came.descending; place = came.place })
-
     abbrev Done : List ℕ → Result Crossed Refusal → Type 0
     Done b₂ q = (crossed_of b₂ l c q ≡ All) × Leaves c ps s b b₂ q
 

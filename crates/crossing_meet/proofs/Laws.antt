@@ -24,7 +24,7 @@ use Rattle.table_record.specs.Limits.{Checked}
 use Rattle.table_record.proofs.Lists.{lt-or-ge}
 use Rattle.table_record.proofs.Tables.{size_is, type-is}
 use Rattle.table_record.specs.Layout.{types_size}
-use Rattle.std.specs.Prelude.{Some, None, Result, Ok, Err, IfOk}
+use Rattle.std.specs.Prelude.{Some, None, Result, Ok, Err}
 use Rattle.std.proofs.lemmas.Result.{IfOk-weaker}
 use Rattle.base_numbers.specs.declared.refusal.Refusal.{Refusal}
 use Rattle.base_numbers.specs.declared.refusal.Refusal.TheVariants.{NotStrict, TypesFull, PlacesFull}
@@ -42,7 +42,7 @@ use Rattle.state_record.proofs.Laws.{places-length}
 use Rattle.state_record.proofs.Kept.{descending-more, typed-more}
 use Rattle.crossing_meet.specs.declared.Landing.TheVariants as landing
 use Rattle.crossing_meet.specs.declared.Crossed.{Crossed}
-use Rattle.crossing_meet.specs.Crossed.{Ready, reference, reference_of, crossed_of, Grew, Came, Leaves, landed}
+use Rattle.crossing_meet.specs.Crossed.{Ready, reference, crossed_of, Grew, Came, Leaves, landed}
 
 -- R meets the type of place p.
 module _ (t : Table) (ps : List Place) (to r p v : ℕ) (is : v ≡ place_type (place_at ps p)) where
@@ -109,10 +109,6 @@ differ {m} {n} h = ne_eqb m n h
 
 pub equal : {m n : ℕ} → m ≡ n → eqb m n ≡ true
 equal {m} {n} h = eq-eqb m n h
-
--- what the next crossing asks
-pub ready_on : (l : List ℕ) (c : Counts) (n : ℕ) (b b' : List ℕ) → Ready l c b → Grew c n b' → length b' ≡ types_size → Ready l (with_count c n) b'
-ready_on l c n b b' h g long = record { checked = grown-checked l c n h.checked g.more g.room; long = long }
 
 -- a refusal, of what the model refuses with its number
 pub stops : (b b' l : List ℕ) (c : Counts) (ps : Places) (s : ℕ) (e : Refusal) → {m : Res Reference} → refuse (number_of e) ≡ m → length b' ≡ types_size → Kept c.types b b'

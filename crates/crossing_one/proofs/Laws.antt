@@ -1,7 +1,7 @@
 -- The definition of `cross` by its cases, and what comes of them.
 use mathlib.Core.Path.{◌≡◌, refl, sym, ap, ◌∙◌, subst}
 use mathlib.Core.Logic.{◌⊎◌, inl, inr}
-use mathlib.Core.Bool.{Bool, true, false, So, not, ◌&&◌}
+use mathlib.Core.Bool.{Bool, true, false, So, ◌&&◌}
 use mathlib.Core.List.{List}
 use Prim.Native.Nat.{ℕ, ◌≤◌, ◌<◌}
 use native.Mathlib.Omega.{arith}
@@ -36,7 +36,7 @@ use Rattle.state_places.specs.Behind.{BaseAt}
 use Rattle.crossing_meet.specs.declared.Landing.TheVariants as landing
 use Rattle.crossing_meet.specs.declared.Crossed.{Crossed}
 use Rattle.crossing_meet.specs.Crossed.{Ready, reference, crossed_of, Came, Leaves, landed}
-use Rattle.crossing_meet.proofs.Laws.{same_kept, none-new, derives-grew, differ, equal, ready_on, stops, stands, leaves-on, derivable}
+use Rattle.crossing_meet.proofs.Laws.{same_kept, none-new, derives-grew, differ, equal, stops, stands, leaves-on, derivable}
 use Rattle.crossing_one.specs.declared.Crossing.{Crossing}
 use Rattle.crossing_one.specs.Crosses.{own_in, crossing}
 
@@ -160,9 +160,6 @@ module _ (b l : List ℕ) (c : Counts) (h : Ready l c b) (ps : Places) (x : Cros
             (other-types-full T (places_in ps) x.from x.place x.to x.receiver (own-table b l c x.to ∙ own) (sym met) (sym less) (answer None e)) g.keeps.long g.keeps.kept
 
         module _ (i m : ℕ) (e : d ≡ Some (i, m)) (n : Counts) (en : n ≡ with_count c m) where
-          pub restrict-ready : Ready l n b₁
-          restrict-ready = subst (λ (y : Counts). Ready l y b₁) (sym en) (ready_on l c m b b₁ h (derives-grew c x.to x.from e g) g.keeps.long)
-
           -- the reference of type `to` at its place, with the types that the derivation left
           half : Leaves c ps x.from b b₁ (Ok (landed ps x.to (landing.Stands x.place) m))
           half = let w = derives-grew c x.to x.from e g in record {

@@ -30,7 +30,7 @@ use Rattle.crossing_meet.specs.declared.Crossed.{Crossed}
 use Rattle.crossing_meet.specs.Crossed.{reference, Ready, PlaceKnown, crossed_of, Came, Leaves}
 use Rattle.std.proofs.lemmas.Result.{IfOk-at_ok}
 use Rattle.crossing_targets.specs.Targets.{passed_of}
-use Rattle.std.specs.Prelude.{Ok, Err, IfOk}
+use Rattle.std.specs.Prelude.{Ok, Err}
 use Rattle.std.specs.Prelude.{Result as Either}
 use Rattle.base_numbers.specs.declared.refusal.Refusal.{Refusal}
 use Rattle.base_numbers.specs.Refusal.{number_of as refusal_number}
@@ -330,14 +330,7 @@ module _ (s₀ : State) (r : ℕ) (ls : List ℕ) (m : ℕ) (xs : List ℕ) (vs 
   abbrev Done : Served → Type 0
   Done q = Sent s₀ All q
 
-  pub sends-starts : Sound s₀ → Sends s₀ 0
-  sends-starts h = record { sound = h; stored = stored-self s₀ h; went = went-self s₀; rest = refl }
-
   module _ (s : State) (i : ℕ) (w : Sends s i) where
-    -- what the next argument asks of the state
-    pub sends-room : 0 < s₀.places.count → 0 < s₀.counts.types → (0 < s.places.count) × (0 < s.counts.types)
-    sends-room p t = (omega (arith, p, w.went.places), omega (arith, t, w.stored.grew.more))
-
     done : Rest (system_in s) i (drop i xs) (drop i vs) ≡ ok (system_in s, nothing) → Done (record { outcome = Ok Nothing; state = s })
     done e = record { is = sym e ∙ w.rest; stored = w.stored; sound = w.sound; went = w.went }
 
