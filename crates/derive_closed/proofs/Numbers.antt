@@ -3,7 +3,9 @@ use mathlib.Core.Path.{◌≡◌, refl, sym, ap, ◌∙◌, subst}
 use mathlib.Core.Logic.{⊎_elim}
 use mathlib.Core.Bool.{Bool, So, true, false, ◌&&◌, ◌||◌, cond}
 use mathlib.Core.List.{List, [], ◌∷◌, ◌++◌, map}
-use mathlib.Core.Option.{Option, none, some}
+use mathlib.Core.Option.{none, some}
+use mathlib.Core.Option.{Option as Optionᵐ}
+use Rattle.std.specs.Prelude.{None, Some}
 use Prim.Native.Nat.{ℕ, zero, suc, ◌+◌, ◌≤◌, ◌<◌}
 use native.Mathlib.Omega.{arith}
 use native.Mathlib.Numerals.{add-one}
@@ -18,32 +20,18 @@ use Rattle.spec_model.specs.Check.{RawType, no_raw_type, no_raw_method, rep_of, 
 use Rattle.spec_model.proofs.Rules.{never}
 use Rattle.table_record.specs.declared.Counts.{Counts}
 use Rattle.table_record.specs.declared.Head.{Head}
-use Rattle.table_record.specs.declared.TypeRec.{TypeRec}
-use Rattle.table_record.specs.Store.{raw_method, raw_of, types_in, types_to, head_of, ref_in, empty_method, blank_method, empty_type, Put, TypeExact}
+use Rattle.table_record.specs.Store.{raw_method, types_in, types_to, head_of, ref_in, empty_method, blank_method, empty_type, Put, TypeExact}
 use Rattle.table_record.proofs.Lists.{lt-or-ge}
 use Rattle.table_record.proofs.Laws.{types-length, put-length, put-types}
 use Rattle.table_record.proofs.Tables.{types-to-at, types-add}
 use Rattle.table_record.proofs.Codes.{number-rep}
 use Rattle.law_table.proofs.Exact.{derived-key, number-exact}
-use Rattle.derive_record.specs.declared.Derived.TheVariants.{Full, At}
-use Rattle.derive_record.specs.declared.Begun.TheVariants.{Settled}
-use Rattle.derive_record.specs.Begins.{found_of, tabled}
+use Rattle.derive_record.specs.Begins.{tabled}
 use Rattle.derive_sub_sup.specs.Link.{Ready, Gives, Kept, Coded, Exact, ExactAt}
-use Rattle.derive_closed.specs.Numbers.{Alike, NumberIn, NumberRep, NumberType}
+use Rattle.derive_closed.specs.Numbers.{Alike, NumberIn, NumberType}
 use Rattle.derive_record.proofs.Begins.{found-known, found-full, closed-begins}
 use Rattle.derive_sub_sup.proofs.Bytes.{record_same, put-below, put-exact}
 use Rattle.derive_sub_sup.proofs.Ends.{size-tabled, Last, Methods, make-new, settled}
-
--- The representation, by its code.
-pub rep-w32 : (x : ℕ) → x ≡ 1 → NumberRep x 1
-rep-w32 x e = record { is = λ _. ap rep_of (sym e); some = omega arith; code = omega arith }
-
-pub rep-w64 : (x : ℕ) → (x ≡ 1 → ⊥) → NumberRep x 2
-rep-w64 x e = record { is = go x e; some = omega arith; code = omega arith } where
-  go : (x : ℕ) → (x ≡ 1 → ⊥) → (x ≡ 0 → ⊥) → rep_of 2 ≡ rep_of x
-  go zero e z = absurd (z refl)
-  go (suc zero) e z = absurd (e refl)
-  go (suc (suc x)) e z = refl
 
 -- the methods of an empty type
 blanks : (j : ℕ) → j < max_methods → get_or (map raw_method empty_type.methods) j no_raw_method ≡ blank_method
@@ -69,22 +57,21 @@ alike-number n b r v h e =
     let z : is_ref (rep_of (get_or (types_in b) r no_raw_type).rep) ≡ false = sym (ap (λ (a : Bool). a && is_ref (rep_of (get_or (types_in b) r no_raw_type).rep)) (lt-ltb r n h.left)) ∙ e in
     (record { below = h.left; number = z }, record { below = h.right; number = sym h.same ∙ z })
 
-module _ {c : Counts} {r v : ℕ} {b : List ℕ} (asked : Ready c c.types r v b) (i : ℕ)
-    (is : found_of c.types i ≡ find closed r v 0 (types_to c.methods c.sheet c.types (types_in b))) where
+module _ {c : Counts} {r v : ℕ} {b : List ℕ} (asked : Ready c c.types r v b) where
   abbrev n : ℕ
   n = c.types
 
-  abbrev Found : Table → Option ℕ
+  abbrev Found : Table → Optionᵐ ℕ
   Found T = find closed r v 0 (types_to c.methods c.sheet n (types_in b))
 
-  pub numbers-known : i < n → Gives closed c n r v b b (At i n)
-  numbers-known h = settled closed asked {g = Settled (At i n)} refl (closed-begins c n r v b (Settled (At i n)) (found-known Found n r v b i (λ T. is) h))
+  pub numbers-known : {i : ℕ} → some i ≡ find closed r v 0 (types_to c.methods c.sheet n (types_in b)) → i < n → Gives closed c n r v b b (Some (i, n))
+  numbers-known {i} is h = settled closed asked {g = Some (Some (i, n))} refl (closed-begins c n r v b (Some (Some (i, n))) (found-known Found n r v b i (λ T. is) h))
 
-  pub numbers-full : n ≤ i → max_types ≤ n → Gives closed c n r v b b Full
-  numbers-full h l = settled closed asked {g = Settled Full} refl (closed-begins c n r v b (Settled Full) (found-full Found n r v b i (λ T. is) h l))
+  pub numbers-full : none ≡ find closed r v 0 (types_to c.methods c.sheet n (types_in b)) → max_types ≤ n → Gives closed c n r v b b None
+  numbers-full is l = settled closed asked {g = Some None} refl (closed-begins c n r v b (Some None) (found-full Found n r v b (λ T. is) l))
 
   -- A new one: x is its record, h the head of R.
-  module _ (none-known : n ≤ i) (room : n < max_types) (left : NumberIn n b r) (right : NumberIn n b v) (h : Head) (read : h ≡ head_of (get_or (types_in b) r no_raw_type)) (x : RawType)
+  module _ (is : none ≡ find closed r v 0 (types_to c.methods c.sheet n (types_in b))) (room : n < max_types) (left : NumberIn n b r) (right : NumberIn n b v) (h : Head) (read : h ≡ head_of (get_or (types_in b) r no_raw_type)) (x : RawType)
       (number : NumberType h r v x) (b' : List ℕ) (put : Put b n x b') where
     abbrev ms : ℕ
     ms = c.methods
@@ -155,7 +142,7 @@ module _ {c : Counts} {r v : ℕ} {b : List ℕ} (asked : Ready c c.types r v b)
 
       unknown : without_new Tb closed r v ≡ none
       unfolding without_new
-      unknown = sym is ∙ ap (λ (a : Bool). cond a (some i) none) (le-ltb i n none-known)
+      unknown = sym is
 
       methods-none : (rec : Derivation) → Methods Tb closed r v rec ≡ some (with_types Tb (Tb.types ++ (pending Tb closed r v ∷ [])), [])
       unfolding derive_methods
@@ -174,15 +161,10 @@ module _ {c : Counts} {r v : ℕ} {b : List ℕ} (asked : Ready c c.types r v b)
           ap (λ (ts : List Ty). some (with_types T ts, n)) types
           ∙ sym (make-new Tb closed r v n unknown (size-tabled T c n b) room (derive f) ∙ ap (Last Tb closed r v n) (methods-none (derive f)))
 
-    pub numbers-new : Gives closed c n r v b b' (At n (n + 1))
+    pub numbers-new : Gives closed c n r v b b' (Some (n, n + 1))
     numbers-new = record {
       keeps = record { long = put-length put ∙ asked.long; kept = kept; sized = (omega arith, omega arith, λ z p q w. omega arith) };
       is = λ T et f l. derives T f l;
       exact = exact;
       coded = coded;
     }
-
--- the record is made of these parts
-pub number-made : (h : Head) (r v rep left right : ℕ) (e : TypeRec) → e ≡ empty_type → NumberRep h.rep rep → left ≡ r → right ≡ v
-    → NumberType h r v (raw_of (record { head = record { rep = rep; cat = h.cat; own = 0; kind = 2; left = left; right = right }; methods = e.methods }))
-number-made h r v rep left right e ee n p q = record { rep = n; is = rw (ee, p, q) }

@@ -8,64 +8,50 @@ ghost use Rattle.table_record.specs.Store.{raw_of, ref_in};
 ghost use Rattle.derive_sub_sup.specs.Link.{Ready, Derives, Gives};
 ghost use Rattle.derive_closed.specs.Numbers.{Alike, NumberIn, NumberRep, NumberType};
 
-use base_numbers::narrow;
-use derive_record::{Begun, Derived};
+use derive_record::Derived;
 use derive_slots::{METHOD_SLOTS, SLOT_BYTES, Slot};
-use table_record::{Counts, Head, Key, TYPE_BYTES, TypeRec};
+use table_record::{Counts, Head, Key, Kind, Method, TYPE_BYTES, TypeRec};
 
 // Closed(R,V) of two reference types, with the signatures of Sub(R,V), which takes no number itself (D9, D10).
 fn closed(b: &mut [u8; TYPE_BYTES], c: Counts, r: usize, v: usize) -> Derived
     requires { Ready c c.types r v b.old × (ref_in c.types b.old r ≡ true) × (ref_in c.types b.old v ≡ true) }
     ensures { Gives closed c c.types r v b.old b.new result }
 {
-    let n = c.types;
-    let begun = derive_record::search(b, c, n, Key::CLOSED, r, v);
-    if let Begun::Settled(answer) = begun {
+    let key = Key {
+        kind: Kind::Closed,
+        left: r,
+        right: v,
+    };
+    if let Some(answer) = derive_record::search(b, c, c.types, key) {
         return answer;
     }
-    let w = derive_record::start(b, n, Key::CLOSED, r, v);
-    let end = c.methods * METHOD_SLOTS;
+    let w = derive_record::start(b, c.types, key);
     let mut bytes = [0u8; SLOT_BYTES];
-    let mut m = n + 1;
-    let mut k: usize = 0;
-    while k < end {
-        let key = Key {
-            kind: Key::CLOSED,
-            left: r,
-            right: v,
-        };
+    let mut m = c.types + 1;
+    for k in 0..c.methods * METHOD_SLOTS {
         match derive_slots::slot_at(b, key, k) {
-            Slot::Empty => k += 1,
-            Slot::Argument(l3, r3) => {
-                let Derived::At(i3, m3) = derive_sub_sup::sup(b, c, m, l3, r3) else {
-                    return Derived::Full;
-                };
-                bytes[k] = base_numbers::narrow(i3);
-                m = m3;
-                k += 1;
+            Slot::Empty => {}
+            Slot::Argument(left, right) => {
+                let (i, count) = derive_sub_sup::sup(b, c, m, left, right)?;
+                bytes[k] = i as u8;
+                m = count;
             }
-            Slot::Answer(l4, r4) => {
-                let Derived::At(i4, m4) = derive_sub_sup::sub(b, c, m, l4, r4) else {
-                    return Derived::Full;
-                };
-                bytes[k] = base_numbers::narrow(i4 + 1);
-                m = m4;
-                k += 1;
+            Slot::Answer(left, right) => {
+                let (i, count) = derive_sub_sup::sub(b, c, m, left, right)?;
+                bytes[k] = (i + 1) as u8;
+                m = count;
             }
         }
     }
-    derive_record::finish(b, n, w, c.methods, bytes);
-    Derived::At(n, m)
+    derive_record::finish(b, c.types, &w, c.methods, &bytes);
+    Some((c.types, m))
 }
 
 // A number type's representation as it is stored: a code past the last is read as w64's.
 fn number_rep(x: u8) -> u8
     ensures { NumberRep x result }
 {
-    if x == Head::W32 {
-        return Head::W32;
-    }
-    Head::W64
+    if x == Head::W32 { Head::W32 } else { Head::W64 }
 }
 
 // Closed(R,V) of two number types, from R's head: no methods.
@@ -73,19 +59,15 @@ fn number_type(h: Head, r: usize, v: usize) -> TypeRec
     requires { (r < 256) × (v < 256) }
     ensures { NumberType h r v (raw_of result) }
 {
-    let empty = TypeRec::empty();
-    let methods = empty.methods;
-    let rep = number_rep(h.rep);
-    let left = narrow(r);
-    let right = narrow(v);
     let head = Head {
-        rep,
+        rep: number_rep(h.rep),
         cat: h.cat,
         own: 0,
-        kind: Key::CLOSED,
-        left,
-        right,
+        kind: Kind::Closed.code(),
+        left: r as u8,
+        right: v as u8,
     };
+    let methods = [Method::empty(); Counts::METHODS];
     TypeRec { head, methods }
 }
 
@@ -96,21 +78,19 @@ fn closed_numbers(b: &mut [u8; TYPE_BYTES], c: Counts, r: usize, v: usize) -> De
 {
     let n = c.types;
     let key = Key {
-        kind: Key::CLOSED,
+        kind: Kind::Closed,
         left: r,
         right: v,
     };
-    let found = derive_record::lookup(b, c, n, key);
-    if found < n {
-        return Derived::At(found, n);
+    if let Some(known) = derive_record::lookup(b, c, n, key) {
+        return Some((known, n));
     }
     if Counts::TYPES <= n {
-        return Derived::Full;
+        return None;
     }
     let h = table_record::get_head(b, r);
-    let z = number_type(h, r, v);
-    table_store::put_type(b, n, z);
-    Derived::At(n, n + 1)
+    table_store::put_type(b, n, number_type(h, r, v));
+    Some((n, n + 1))
 }
 
 // Closed(R,V) of two reference types or of two number types, as a crossing asks for it.

@@ -1,226 +1,44 @@
--- Rests on Turns (a turn of the loop) and Ends (from the type at work to the finished one).
+-- Rests on Ends, as Sub and Sup do.
 use mathlib.Core.Path.{refl}
-use Prim.Native.Nat.{◌*◌}
 use native.Mathlib.Omega.{arith}
 use Rattle.spec_model.specs.Table.{closed}
-use Rattle.derive_slots.specs.Slots.{method_slots}
 use Rattle.derive_record.proofs.Begins.{closed-begins}
-use Rattle.derive_sub_sup.proofs.Ends.{Started, started, settled, new-ready, start_loop, slot-ready, slot_read, finish-ready, new-full, new-at}
-use Rattle.derive_sub_sup.proofs.Turns.{Turn, turn-empty, argument-ready, argument-full, argument-low, argument-turn, answer-ready, answer-full, answer-low, answer-turn}
+use Rattle.derive_sub_sup.proofs.Ends.{settled, loop-starts, empty-goes, argument-stops, argument-byte, argument-goes, answer-stops, answer-byte, answer-goes, ends}
 use Rattle.derive_closed.proofs.closed.Goals as goal
+use Rattle.derive_closed.proofs.closed.Goals.{in-Empty, in-Argument+in_ok-i-in-Argument, in-Answer+in_ok-i-in-Answer}
 
-pub search-begun-requires : goal.search-begun-requires
-search-begun-requires c =
-    (omega arith, c.requires.0.limits, c.requires.1, c.requires.2)
-
-pub returns-in-Settled : goal.returns-in-Settled
-returns-in-Settled c =
-    let a = c.args in
-    settled closed c.requires.0 c.in-Settled.is (closed-begins a.c a.c.types a.r a.v a.b.now c.search-begun.result c.search-begun.ensures)
-
-pub start-w-requires : goal.start-w-requires
-start-w-requires c =
-    let a = c.args in
-    new-ready closed c.requires.0 c.in_default.is (closed-begins a.c a.c.types a.r a.v a.b.now c.search-begun.result c.search-begun.ensures)
-
-pub overflow_mul-end : goal.overflow_mul-end
-overflow_mul-end c =
-    let h = c.requires.0.limits.methods in omega arith
-
-pub overflow_add-m : goal.overflow_add-m
-overflow_add-m c =
-    let h = c.requires.0.limits.types in omega arith
+pub returns-in-Some : goal.returns-in-Some
+returns-in-Some c = let a = c.args in settled closed c.requires.0 c.in-Some.is (closed-begins a.c a.c.types a.r a.v a.b.now c.search.result c.search.ensures)
 
 pub loop-k-init : goal.loop-k-init
-loop-k-init c =
-    let a = c.args in
-    let st = c.start-w in
-    let begun : Started closed a.c a.c.types a.r a.v st.result a.b.now st.new.b =
-    started c.requires.0 refl (omega arith) c.in_default.is (closed-begins a.c a.c.types a.r a.v a.b.now c.search-begun.result c.search-begun.ensures) st.ensures in
-    start_loop begun
+loop-k-init c = let a = c.args in
+    loop-starts c.requires.0 refl c.in_default.is (closed-begins a.c a.c.types a.r a.v a.b.now c.search.result c.search.ensures) c.start-w.ensures
 
-pub slot_at-requires : goal.slot_at-requires
-slot_at-requires c =
-    let a = c.args in
-    let st = c.start-w in
-    let begun : Started closed a.c a.c.types a.r a.v st.result a.b.now st.new.b =
-    started c.requires.0 refl (omega arith) c.in_default.is (closed-begins a.c a.c.types a.r a.v a.b.now c.search-begun.result c.search-begun.ensures) st.ensures in
-    slot-ready begun c.loop-k.invariant c.loop-k-test.true (omega arith)
+pub returns-in_err-i-in-Argument : goal.returns-in_err-i-in-Argument
+returns-in_err-i-in-Argument c = rw c.from_residual.ensures
+    (argument-stops c.loop-k.invariant (omega arith) c.slot_at.ensures c.in-Argument.is c.sup.ensures c.in_err-i-in-Argument.was)
 
-pub loop-k-preserved-in-Empty : goal.loop-k-preserved-in-Empty
-loop-k-preserved-in-Empty c =
-    let a = c.args in
-    let st = c.start-w in
-    let begun : Started closed a.c a.c.types a.r a.v st.result a.b.now st.new.b =
-    started c.requires.0 refl (omega arith) c.in_default.is (closed-begins a.c a.c.types a.r a.v a.b.now c.search-begun.result c.search-begun.ensures) st.ensures in
-    let l = c.loop-k in
-    let turn : Turn closed a.c a.c.types st.result st.new.b l.b (a.c.methods * method_slots) l.bytes l.m l.k c.slot_at.result = record {
-      now = l.invariant;
-      test = c.loop-k-test.true;
-      told = slot_read begun l.invariant c.slot_at.ensures.0;
-      low = c.slot_at.ensures.1;
-    } in
-    turn-empty turn c.in-Empty.is
+pub overflow_cast-bytes : goal.overflow_cast-bytes
+overflow_cast-bytes c = omega (arith, argument-byte c.loop-k.invariant (omega arith) c.slot_at.ensures c.in-Argument.is c.sup.ensures c.in_ok-i-in-Argument.was)
 
-pub sup-requires : goal.sup-requires
-sup-requires c =
-    let a = c.args in
-    let st = c.start-w in
-    let begun : Started closed a.c a.c.types a.r a.v st.result a.b.now st.new.b =
-    started c.requires.0 refl (omega arith) c.in_default.is (closed-begins a.c a.c.types a.r a.v a.b.now c.search-begun.result c.search-begun.ensures) st.ensures in
-    let l = c.loop-k in
-    let turn : Turn closed a.c a.c.types st.result st.new.b l.b (a.c.methods * method_slots) l.bytes l.m l.k c.slot_at.result = record {
-      now = l.invariant;
-      test = c.loop-k-test.true;
-      told = slot_read begun l.invariant c.slot_at.ensures.0;
-      low = c.slot_at.ensures.1;
-    } in
-    argument-ready turn c.in-Argument.is
+pub returns-in_err-i-in-Answer : goal.returns-in_err-i-in-Answer
+returns-in_err-i-in-Answer c = rw c.from_residual-in_err-i-in-Answer.ensures
+    (answer-stops c.loop-k.invariant (omega arith) c.slot_at.ensures c.in-Answer.is c.sub.ensures c.in_err-i-in-Answer.was)
 
-pub returns-in_default-sup : goal.returns-in_default-sup
-returns-in_default-sup c =
-    let a = c.args in
-    let st = c.start-w in
-    let begun : Started closed a.c a.c.types a.r a.v st.result a.b.now st.new.b =
-    started c.requires.0 refl (omega arith) c.in_default.is (closed-begins a.c a.c.types a.r a.v a.b.now c.search-begun.result c.search-begun.ensures) st.ensures in
-    let l = c.loop-k in
-    let turn : Turn closed a.c a.c.types st.result st.new.b l.b (a.c.methods * method_slots) l.bytes l.m l.k c.slot_at.result = record {
-      now = l.invariant;
-      test = c.loop-k-test.true;
-      told = slot_read begun l.invariant c.slot_at.ensures.0;
-      low = c.slot_at.ensures.1;
-    } in
-    new-full begun l.invariant c.sup.ensures.keeps (argument-full turn c.in-Argument.is c.sup.ensures c.in_default-sup.is)
+pub overflow_add-bytes : goal.overflow_add-bytes
+overflow_add-bytes c = omega (arith, answer-byte c.loop-k.invariant (omega arith) c.slot_at.ensures c.in-Answer.is c.sub.ensures c.in_ok-i-in-Answer.was)
 
-pub narrow-requires : goal.narrow-requires
-narrow-requires c =
-    let a = c.args in
-    let st = c.start-w in
-    let begun : Started closed a.c a.c.types a.r a.v st.result a.b.now st.new.b =
-    started c.requires.0 refl (omega arith) c.in_default.is (closed-begins a.c a.c.types a.r a.v a.b.now c.search-begun.result c.search-begun.ensures) st.ensures in
-    let l = c.loop-k in
-    let turn : Turn closed a.c a.c.types st.result st.new.b l.b (a.c.methods * method_slots) l.bytes l.m l.k c.slot_at.result = record {
-      now = l.invariant;
-      test = c.loop-k-test.true;
-      told = slot_read begun l.invariant c.slot_at.ensures.0;
-      low = c.slot_at.ensures.1;
-    } in
-    argument-low turn c.in-Argument.is c.sup.ensures c.in-At.is
-
-pub bounds-bytes-k : goal.bounds-bytes-k
-bounds-bytes-k c =
-    let now = c.loop-k.invariant in
-    omega (arith, c.loop-k-test.true, now.edge, now.limits.methods, now.wide)
-
-pub loop-k-preserved-in-Argument : goal.loop-k-preserved-in-Argument
-loop-k-preserved-in-Argument c =
-    let a = c.args in
-    let st = c.start-w in
-    let begun : Started closed a.c a.c.types a.r a.v st.result a.b.now st.new.b =
-    started c.requires.0 refl (omega arith) c.in_default.is (closed-begins a.c a.c.types a.r a.v a.b.now c.search-begun.result c.search-begun.ensures) st.ensures in
-    let l = c.loop-k in
-    let turn : Turn closed a.c a.c.types st.result st.new.b l.b (a.c.methods * method_slots) l.bytes l.m l.k c.slot_at.result = record {
-      now = l.invariant;
-      test = c.loop-k-test.true;
-      told = slot_read begun l.invariant c.slot_at.ensures.0;
-      low = c.slot_at.ensures.1;
-    } in
-    argument-turn turn c.in-Argument.is c.sup.ensures c.in-At.is c.narrow.ensures
-
-pub sub-requires : goal.sub-requires
-sub-requires c =
-    let a = c.args in
-    let st = c.start-w in
-    let begun : Started closed a.c a.c.types a.r a.v st.result a.b.now st.new.b =
-    started c.requires.0 refl (omega arith) c.in_default.is (closed-begins a.c a.c.types a.r a.v a.b.now c.search-begun.result c.search-begun.ensures) st.ensures in
-    let l = c.loop-k in
-    let turn : Turn closed a.c a.c.types st.result st.new.b l.b (a.c.methods * method_slots) l.bytes l.m l.k c.slot_at.result = record {
-      now = l.invariant;
-      test = c.loop-k-test.true;
-      told = slot_read begun l.invariant c.slot_at.ensures.0;
-      low = c.slot_at.ensures.1;
-    } in
-    answer-ready turn c.in-Answer.is
-
-pub returns-in_default-sub : goal.returns-in_default-sub
-returns-in_default-sub c =
-    let a = c.args in
-    let st = c.start-w in
-    let begun : Started closed a.c a.c.types a.r a.v st.result a.b.now st.new.b =
-    started c.requires.0 refl (omega arith) c.in_default.is (closed-begins a.c a.c.types a.r a.v a.b.now c.search-begun.result c.search-begun.ensures) st.ensures in
-    let l = c.loop-k in
-    let turn : Turn closed a.c a.c.types st.result st.new.b l.b (a.c.methods * method_slots) l.bytes l.m l.k c.slot_at.result = record {
-      now = l.invariant;
-      test = c.loop-k-test.true;
-      told = slot_read begun l.invariant c.slot_at.ensures.0;
-      low = c.slot_at.ensures.1;
-    } in
-    new-full begun l.invariant c.sub.ensures.keeps (answer-full turn c.in-Answer.is c.sub.ensures c.in_default-sub.is)
-
-pub overflow_add-i4 : goal.overflow_add-i4
-overflow_add-i4 c =
-    let a = c.args in
-    let st = c.start-w in
-    let begun : Started closed a.c a.c.types a.r a.v st.result a.b.now st.new.b =
-    started c.requires.0 refl (omega arith) c.in_default.is (closed-begins a.c a.c.types a.r a.v a.b.now c.search-begun.result c.search-begun.ensures) st.ensures in
-    let l = c.loop-k in
-    let turn : Turn closed a.c a.c.types st.result st.new.b l.b (a.c.methods * method_slots) l.bytes l.m l.k c.slot_at.result = record {
-      now = l.invariant;
-      test = c.loop-k-test.true;
-      told = slot_read begun l.invariant c.slot_at.ensures.0;
-      low = c.slot_at.ensures.1;
-    } in
-    let low = answer-low turn c.in-Answer.is c.sub.ensures c.in-At-sub.is in
-    omega arith
-
-pub narrow-requires-in-Answer : goal.narrow-requires-in-Answer
-narrow-requires-in-Answer c =
-    let a = c.args in
-    let st = c.start-w in
-    let begun : Started closed a.c a.c.types a.r a.v st.result a.b.now st.new.b =
-    started c.requires.0 refl (omega arith) c.in_default.is (closed-begins a.c a.c.types a.r a.v a.b.now c.search-begun.result c.search-begun.ensures) st.ensures in
-    let l = c.loop-k in
-    let turn : Turn closed a.c a.c.types st.result st.new.b l.b (a.c.methods * method_slots) l.bytes l.m l.k c.slot_at.result = record {
-      now = l.invariant;
-      test = c.loop-k-test.true;
-      told = slot_read begun l.invariant c.slot_at.ensures.0;
-      low = c.slot_at.ensures.1;
-    } in
-    let low = answer-low turn c.in-Answer.is c.sub.ensures c.in-At-sub.is in
-    omega arith
-
-pub bounds-bytes-k-in-Answer : goal.bounds-bytes-k-in-Answer
-bounds-bytes-k-in-Answer c =
-    let now = c.loop-k.invariant in
-    omega (arith, c.loop-k-test.true, now.edge, now.limits.methods, now.wide)
+pub overflow_cast-bytes-in-Answer : goal.overflow_cast-bytes-in-Answer
+overflow_cast-bytes-in-Answer c = omega (arith, answer-byte c.loop-k.invariant (omega arith) c.slot_at.ensures c.in-Answer.is c.sub.ensures c.in_ok-i-in-Answer.was)
 
 pub loop-k-preserved : goal.loop-k-preserved
-loop-k-preserved c =
-    let a = c.args in
-    let st = c.start-w in
-    let begun : Started closed a.c a.c.types a.r a.v st.result a.b.now st.new.b =
-    started c.requires.0 refl (omega arith) c.in_default.is (closed-begins a.c a.c.types a.r a.v a.b.now c.search-begun.result c.search-begun.ensures) st.ensures in
-    let l = c.loop-k in
-    let turn : Turn closed a.c a.c.types st.result st.new.b l.b (a.c.methods * method_slots) l.bytes l.m l.k c.slot_at.result = record {
-      now = l.invariant;
-      test = c.loop-k-test.true;
-      told = slot_read begun l.invariant c.slot_at.ensures.0;
-      low = c.slot_at.ensures.1;
-    } in
-    answer-turn turn c.in-Answer.is c.sub.ensures c.in-At-sub.is c.narrow-in-Answer.ensures
-
-pub finish-requires : goal.finish-requires
-finish-requires c =
-    let a = c.args in
-    let st = c.start-w in
-    let begun : Started closed a.c a.c.types a.r a.v st.result a.b.now st.new.b =
-    started c.requires.0 refl (omega arith) c.in_default.is (closed-begins a.c a.c.types a.r a.v a.b.now c.search-begun.result c.search-begun.ensures) st.ensures in
-    finish-ready begun c.requires.0 c.loop-k.invariant
+loop-k-preserved c = elim c.match-slot_at.branch [
+  | in-Empty w ↦ rw (w.b-is, w.bytes-is, w.m-is) (empty-goes c.loop-k.invariant (omega arith) c.slot_at.ensures w.in-Empty.is)
+  | in-Argument+in_ok-i-in-Argument w ↦ rw (w.b-is, w.bytes-is, w.m-is)
+      (argument-goes c.loop-k.invariant (omega arith) c.slot_at.ensures w.in-Argument.is w.sup.ensures w.in_ok-i-in-Argument.was)
+  | in-Answer+in_ok-i-in-Answer w ↦ rw (w.b-is, w.bytes-is, w.m-is)
+      (answer-goes c.loop-k.invariant (omega arith) c.slot_at.ensures w.in-Answer.is w.sub.ensures w.in_ok-i-in-Answer.was)
+]
 
 pub returns : goal.returns
-returns c =
-    let a = c.args in
-    let st = c.start-w in
-    let begun : Started closed a.c a.c.types a.r a.v st.result a.b.now st.new.b =
-    started c.requires.0 refl (omega arith) c.in_default.is (closed-begins a.c a.c.types a.r a.v a.b.now c.search-begun.result c.search-begun.ensures) st.ensures in
-    new-at begun c.loop-k.invariant c.loop-k-test.false c.finish.ensures
+returns c = ends c.loop-k.invariant (omega arith) c.finish.ensures
