@@ -1,46 +1,31 @@
 -- Laws of readings: one reader behind another, several in a row, the lines of a type, and what the code's answers say of them.
+use Rattle.std.specs.Prelude.{Result, Ok, Err, IfOk}
 use mathlib.Core.Path.{◌≡◌, refl, sym, ap, ◌∙◌, subst}
 use mathlib.Core.Bool.{Bool, false, cond}
 use mathlib.Core.List.{List, [], ◌∷◌, ◌++◌}
 use Prim.Native.Nat.{ℕ, zero, suc, ◌+◌, ◌-◌, ◌≤◌, ◌<◌}
 use native.Mathlib.Omega.{arith}
 use lib.ListN.{drop}
-use borrow.Author.Tests.{eq-eqb, ne_eqb}
 use Rattle.spec_model.specs.Table.{ref, Ty, Rep, Method}
 use Rattle.spec_model.specs.Check.{rep_of}
 use Rattle.spec_sheet.specs.Lines.{bytes, Row, split, Reading, refused, got, Reader, pure, line, follow, bind, times}
 use Rattle.spec_sheet.specs.Sheet.{number_line, rep_line, own_line, sheet_type, members, one_type}
-use Rattle.text_read.specs.View.{reading, read_by, GotAtMost}
+use Rattle.base_numbers.specs.Refusal.{number_of}
+use Rattle.text_read.specs.View.{reading_by}
+use Rattle.text_read.specs.declared.Malformed.{Malformed}
 use Rattle.text_cursor.specs.declared.Cursor.{Cursor}
-use Rattle.text_read.specs.declared.Got.{Got}
-use Rattle.text_read.specs.declared.Got.TheVariants.{Refused, At}
 use Rattle.sheet_read_type.specs.View.{each_method, members_read}
 
--- What a reading's number says.
-module _ {A : Type 0} (s : List ℕ) (nr : ℕ) (x : A) (at : ℕ) (R : Reading A) (is : reading s nr x at ≡ R) where
-  pub read_no : (nr ≡ 0 → ⊥) → refused nr at ≡ R
-  read_no h = ap (λ z. cond z (got x at (split (drop at s))) (refused nr at)) (sym (ne_eqb nr 0 h)) ∙ is
+-- What the cases of a result say.
+module _ {T A : Type 0} (f : T → A) (s : List ℕ) (r : Result (T × Cursor) Malformed) (R : Reading A) (is : reading_by f s r ≡ R) where
+  pub read_no : (e : Malformed) → r ≡ Err e → refused (number_of e.refusal) e.at ≡ R
+  read_no e w = ap (reading_by f s) (sym w) ∙ is
 
-  pub read_ok : nr ≡ 0 → got x at (split (drop at s)) ≡ R
-  read_ok h = ap (λ z. cond z (got x at (split (drop at s))) (refused nr at)) (sym (eq-eqb nr 0 h)) ∙ is
+  pub read_ok : (x : T) (c : Cursor) → r ≡ Ok (x, c) → got (f x) c.at (split (drop c.at s)) ≡ R
+  read_ok x c w = ap (reading_by f s) (sym w) ∙ is
 
-pub refused-is : {A : Type 0} (s : List ℕ) (nr k at a : ℕ) (x : A) (R : Reading A) → (k ≡ 0 → ⊥) → nr ≡ k → at ≡ a → refused k a ≡ R → reading s nr x at ≡ R
-refused-is s nr k at a x R h e f q =
-    ap (λ (z : ℕ). reading s z x at) e ∙ ap (λ (z : ℕ). reading s k x z) f ∙ ap (λ z. cond z (got x a (split (drop a s))) (refused k a)) (ne_eqb k 0 h) ∙ q
-
--- What the cases of an answer say.
-module _ {A : Type 0} (f : ℕ → A) (s : List ℕ) (at : ℕ) (g : Got) (R : Reading A) (is : read_by f s at g ≡ R) where
-  pub got-no : (k : ℕ) → g ≡ Refused k → refused k at ≡ R
-  got-no k e = ap (read_by f s at) (sym e) ∙ is
-
-  pub got-ok : (n : ℕ) (c : Cursor) → g ≡ At n c → got (f n) c.at (split (drop c.at s)) ≡ R
-  got-ok n c e = ap (read_by f s at) (sym e) ∙ is
-
-pub got-refusal : (high : ℕ) (g : Got) (k : ℕ) → g ≡ Refused k → GotAtMost high g → k ≡ 0 → ⊥
-got-refusal high g k e h z = let p : 0 < k = subst (GotAtMost high) e h in omega arith
-
-pub got-at-most : (high : ℕ) (g : Got) (n : ℕ) (c : Cursor) → g ≡ At n c → GotAtMost high g → n ≤ high
-got-at-most high g n c e h = subst (GotAtMost high) e h
+pub ok_has : {T : Type 0} (P : T × Cursor → Type 0) (r : Result (T × Cursor) Malformed) (x : T) (c : Cursor) → r ≡ Ok (x, c) → IfOk r P → P (x, c)
+ok_has P r x c w h = subst (λ z. IfOk z P) w h
 
 -- One reader behind another, k, where both come to S: the step of every line.
 module _ {A B : Type 0} {R : Reading A} {S : Reading B} (k : A → Reader B) (whole : follow R k ≡ S) where

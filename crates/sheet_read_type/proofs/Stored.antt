@@ -15,8 +15,8 @@ use Rattle.spec_model.specs.Basics.{from}
 use Rattle.spec_model.specs.Table.{Ty, Rep, is_ref, Method as Methodᵐ, max_methods, max_types}
 use Rattle.spec_model.specs.Check.{RawType, no_raw_method, rep_of, kind_of, method_of, type_of}
 use Rattle.spec_model.specs.Records.{type_record}
+use Rattle.spec_model.specs.Relations.{bit}
 use Rattle.table_record.specs.declared.Method.{Method}
-use Rattle.table_record.specs.declared.Head.{Head}
 use Rattle.table_record.specs.Store.{raw_method, types_to, record_bytes, empty_types, empty_method, blank_method, MethodExact, TypeExact}
 use Rattle.table_record.specs.Records.{padded, bytes_of, type_bytes}
 use Rattle.law_table.proofs.Exact.{padded-next, padded-length}
@@ -43,16 +43,25 @@ meaning : Rep → Bool → ℕ → ℕ → List Methodᵐ → Bool → RawType �
 meaning r isr c o ms sheet x =
     record { rep = r; cat = c; own = isr && eqb o 1; methods = cond isr ms []; key = cond sheet none (some (record { kind = kind_of x.kind; left = x.left; right = x.right })) }
 
+pub bit-small : (o : Bool) → bit o ≤ 1
+bit-small true = omega arith
+bit-small false = omega arith
+
+one-bit : (o : Bool) → eqb (bit o) 1 ≡ o
+one-bit true = refl
+one-bit false = refl
+
 module _ (m n i : ℕ) (x : RawType) (h : i < n) where
-  pub ref-means : (c o : ℕ) (ms : List Methodᵐ) → x.rep ≡ 0 → x.cat ≡ c → x.own ≡ o → from m 0 (λ j. method_of (get_or x.methods j no_raw_method)) ≡ ms
-      → type_of m n i x ≡ sheet_type (rep_of 0) c (eqb o 1) ms
+  pub ref-means : (c : ℕ) (o : Bool) (ms : List Methodᵐ) → x.rep ≡ 0 → x.cat ≡ c → x.own ≡ bit o → from m 0 (λ j. method_of (get_or x.methods j no_raw_method)) ≡ ms
+      → type_of m n i x ≡ sheet_type (rep_of 0) c o ms
   unfolding meaning
   ref-means c o ms p q r f =
       ap (λ z. meaning (rep_of x.rep) (is_ref (rep_of x.rep)) x.cat x.own (from m 0 (λ j. method_of (get_or x.methods j no_raw_method))) z x) (lt-ltb i n h)
       ∙ ap (λ (z : ℕ). meaning (rep_of z) (is_ref (rep_of z)) x.cat x.own (from m 0 (λ j. method_of (get_or x.methods j no_raw_method))) true x) p
       ∙ ap (λ (z : ℕ). sheet_type (rep_of 0) z (eqb x.own 1) (from m 0 (λ j. method_of (get_or x.methods j no_raw_method)))) q
       ∙ ap (λ (z : ℕ). sheet_type (rep_of 0) c (eqb z 1) (from m 0 (λ j. method_of (get_or x.methods j no_raw_method)))) r
-      ∙ ap (sheet_type (rep_of 0) c (eqb o 1)) f
+      ∙ ap (λ z. sheet_type (rep_of 0) c z (from m 0 (λ j. method_of (get_or x.methods j no_raw_method)))) (one-bit o)
+      ∙ ap (sheet_type (rep_of 0) c o) f
 
   pub number-means : (r c : ℕ) → 0 < r → x.rep ≡ r → x.cat ≡ c → type_of m n i x ≡ sheet_type (rep_of r) c false []
   unfolding meaning
@@ -123,8 +132,3 @@ methods-put ms j x l h e w = record { exact = before; rest = λ k p q. other k (
         (λ (d : k ≡ j). subst MethodExact (sym (ap (λ (z : ℕ). get_or (map raw_method (set ms j x)) z no_raw_method) d ∙ same)) e)
         (λ (d : k ≡ j → ⊥). subst MethodExact (sym (other k d)) (w.exact k (omega (arith, d))))
         (same_or k j)
-
--- The head of a sheet type.
-pub head-eq : {r c o r' c' o' : ℕ} → r ≡ r' → c ≡ c' → o ≡ o'
-    → ◌≡◌ {A = Head} (record { rep = r; cat = c; own = o; kind = 0; left = 0; right = 0 }) (record { rep = r'; cat = c'; own = o'; kind = 0; left = 0; right = 0 })
-head-eq p q r = cc

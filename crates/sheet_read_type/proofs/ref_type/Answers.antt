@@ -1,76 +1,79 @@
 -- The own flag and the methods in turn (`step-no`, `step_ok`): the record made of them means the definition's type and is exact (B13).
 use mathlib.Core.List.{map}
-use mathlib.Core.Path.{sym, ap, ◌∙◌}
+use mathlib.Core.Path.{◌≡◌, ap, ◌∙◌}
 use Prim.Native.Nat.{◌≤◌}
 use native.Mathlib.Omega.{arith}
 use lib.ListN.{length, drop, take, length-map}
-use Rattle.spec_model.specs.Table.{Ty}
+use Rattle.std.proofs.Common.{rules}
+use Rattle.std.specs.Prelude.{Ok, Err}
+use Rattle.spec_model.specs.Table.{Ty, max_methods}
+use Rattle.spec_model.specs.Check.{type_of}
 use Rattle.law_table.proofs.Exact.{sheet-key, ref-exact}
 use Rattle.table_record.specs.Store.{raw_of, raw_method}
 use Rattle.table_record.specs.declared.Head.{Head}
 use Rattle.spec_sheet.specs.Lines.{split, got}
-use Rattle.sheet_read_line.specs.View.{yes_of}
-use Rattle.sheet_read_type.proofs.Readings.{read_no, read_ok, refused-is, got-no, got-ok, got-refusal, got-at-most, members-of, after_own, after_methods, step-no, step_ok}
-use Rattle.sheet_read_type.proofs.Stored.{methods-all, ref-means}
-use Rattle.sheet_read_type.specs.View.{method_is}
+use Rattle.text_read.specs.View.{reading_by}
+use Rattle.sheet_read_type.proofs.Readings.{read_no, read_ok, ok_has, members-of, after_own, after_methods, step-no, step_ok}
+use Rattle.sheet_read_type.proofs.Stored.{methods-all, ref-means, bit-small}
+use Rattle.sheet_read_type.specs.View.{method_is, MethodsExact}
 use Rattle.sheet_read_type.proofs.ref_type.Goals as goal
 
-pub returns-then-g-ne0 : goal.returns-then-g-ne0
-returns-then-g-ne0 c =
+pub returns-in_err-own-clause-is : goal.returns-in_err-own-clause-is
+returns-in_err-own-clause-is c =
     let a = c.args in
     let s = a.s.now in
-    let o = c.next_own-o in
-    let on = c.in-At.own in
-    let oc = c.in-At.a in
-    let oe = got-ok yes_of s a.c.at o.result _ o.ensures.is on oc c.in-At.is in
-    let g = c.methods_at-g in
-    let r = c.no_type-then-g-ne0 in record {
-      is = λ i h. refused-is s r.result.refusal g.result.refusal r.result.next.at g.result.next.at _ _ c.if-g-ne0.true r.ensures.0 r.ensures.1
-          (step-no (after_methods a.cat (yes_of on)) (step_ok (after_own a.m a.n a.cat) (members-of a.m a.n a.cat a.c.at (split (drop a.c.at s))) oe)
-          (read_no s g.result.refusal (map method_is (take a.m g.result.list)) g.result.next.at _ g.ensures.is c.if-g-ne0.true));
-      exact = λ i h z. absurd (c.if-g-ne0.true (sym r.ensures.0 ∙ z));
-    }
+    let o = c.next_own in
+    let x = c.in_err-own.field-0.0 in
+    let w : c.from_residual.result ≡ Err x = search rules in
+    λ i h. ap (reading_by (λ t. type_of a.m a.n i (raw_of t)) s) w
+    ∙ step-no (after_own a.m a.n a.cat) (members-of a.m a.n a.cat a.c.at (split (drop a.c.at s))) (read_no (λ b. b) s o.result _ o.ensures x c.in_err-own.was)
 
-pub sheet_head-head-requires : goal.sheet_head-head-requires
-sheet_head-head-requires c =
-    (omega arith, c.requires.0, omega (arith, got-at-most 1 c.next_own-o.result c.in-At.own c.in-At.a c.in-At.is c.next_own-o.ensures.within))
-
-pub returns-in-Refused : goal.returns-in-Refused
-returns-in-Refused c =
+pub returns-in_err-methods-clause-is : goal.returns-in_err-methods-clause-is
+returns-in_err-methods-clause-is c =
     let a = c.args in
     let s = a.s.now in
-    let o = c.next_own-o in
-    let k = c.in-Refused.k in
-    let r = c.no_type in
-    let nz = got-refusal 1 o.result k c.in-Refused.is o.ensures.within in record {
-      is = λ i h. refused-is s r.result.refusal k r.result.next.at a.c.at _ _ nz r.ensures.0 r.ensures.1
-          (step-no (after_own a.m a.n a.cat) (members-of a.m a.n a.cat a.c.at (split (drop a.c.at s)))
-          (got-no yes_of s a.c.at o.result _ o.ensures.is k c.in-Refused.is));
-      exact = λ i h z. absurd (nz (sym r.ensures.0 ∙ z));
-    }
+    let o = c.next_own in
+    let g = c.methods_at in
+    let x = c.in_err-methods.field-0.0 in
+    let w : c.from_residual-in_err-methods.result ≡ Err x = search rules in
+    let q : o.result ≡ Ok (c.in_ok-own.own, c.in_ok-own.c) = search rules in
+    λ i h. ap (reading_by (λ t. type_of a.m a.n i (raw_of t)) s) w
+    ∙ step-no (after_methods a.cat c.in_ok-own.own)
+    (step_ok (after_own a.m a.n a.cat) (members-of a.m a.n a.cat a.c.at (split (drop a.c.at s))) (read_ok (λ b. b) s o.result _ o.ensures _ _ q))
+    (read_no (λ l. map method_is (take a.m l)) s g.result _ g.ensures.is x c.in_err-methods.was)
 
-pub returns-else-g-ne0 : goal.returns-else-g-ne0
-returns-else-g-ne0 c =
+pub returns-clause-is : goal.returns-clause-is
+returns-clause-is c =
     let a = c.args in
     let s = a.s.now in
-    let o = c.next_own-o in
-    let on = c.in-At.own in
-    let oc = c.in-At.a in
-    let oe = got-ok yes_of s a.c.at o.result _ o.ensures.is on oc c.in-At.is in
-    let g = c.methods_at-g in
-    let list = g.result.list in
-    let few : a.m ≤ length list = omega (arith, g.ensures.exact.1, c.requires.1) in
+    let o = c.next_own in
+    let own = c.in_ok-own.own in
+    let q : o.result ≡ Ok (own, c.in_ok-own.c) = search rules in
+    let g = c.methods_at in
+    let list = c.in_ok-methods.methods in
+    let next = c.in_ok-methods.c in
+    let w : g.result ≡ Ok (list, next) = search rules in
+    let long = (ok_has (λ r. MethodsExact a.m r.0 × (length r.0 ≡ max_methods)) g.result list next w g.ensures.exact).1 in
+    let few : a.m ≤ length list = omega (arith, long, c.requires.1) in
     let head = c.sheet_head-head.ensures in
     let x = raw_of (record { head = c.sheet_head-head.result; methods = list }) in
-    let exact = g.ensures.exact.0 c.if-g-ne0.false in record {
-      is = λ i h. ap (λ (z : Ty). got z g.result.next.at (split (drop g.result.next.at s)))
-          (ref-means a.m a.n i x h a.cat on (map method_is (take a.m list)) (ap (λ (z : Head). z.rep) head) (ap (λ (z : Head). z.cat) head) (ap (λ (z : Head). z.own) head)
-          (methods-all list a.m few))
-          ∙ step_ok (after_methods a.cat (yes_of on)) (step_ok (after_own a.m a.n a.cat) (members-of a.m a.n a.cat a.c.at (split (drop a.c.at s))) oe)
-          (read_ok s g.result.refusal (map method_is (take a.m list)) g.result.next.at _ g.ensures.is c.if-g-ne0.false);
-      exact = λ i h z. ref-exact a.m a.n i x (length-map list raw_method ∙ g.ensures.exact.1)
-          (sheet-key a.n i x h (ap (λ (z : Head). z.kind) head) (ap (λ (z : Head). z.left) head) (ap (λ (z : Head). z.right) head))
-          (ap (λ (z : Head). z.rep) head)
-          (omega (arith, ap (λ (z : Head). z.own) head, got-at-most 1 o.result on oc c.in-At.is o.ensures.within))
-          exact.exact exact.rest;
-    }
+    λ i h. ap (λ (z : Ty). got z next.at (split (drop next.at s)))
+    (ref-means a.m a.n i x h a.cat own (map method_is (take a.m list)) (ap (λ (z : Head). z.rep) head) (ap (λ (z : Head). z.cat) head) (ap (λ (z : Head). z.own) head)
+    (methods-all list a.m few))
+    ∙ step_ok (after_methods a.cat own)
+    (step_ok (after_own a.m a.n a.cat) (members-of a.m a.n a.cat a.c.at (split (drop a.c.at s))) (read_ok (λ b. b) s o.result _ o.ensures _ _ q))
+    (read_ok (λ l. map method_is (take a.m l)) s g.result _ g.ensures.is list next w)
+
+pub returns-clause-exact : goal.returns-clause-exact
+returns-clause-exact c =
+    let a = c.args in
+    let own = c.in_ok-own.own in
+    let g = c.methods_at in
+    let list = c.in_ok-methods.methods in
+    let w : g.result ≡ Ok (list, c.in_ok-methods.c) = search rules in
+    let exact = ok_has (λ r. MethodsExact a.m r.0 × (length r.0 ≡ max_methods)) g.result list c.in_ok-methods.c w g.ensures.exact in
+    let head = c.sheet_head-head.ensures in
+    let x = raw_of (record { head = c.sheet_head-head.result; methods = list }) in
+    λ i h. ref-exact a.m a.n i x (length-map list raw_method ∙ exact.1)
+    (sheet-key a.n i x h (ap (λ (z : Head). z.kind) head) (ap (λ (z : Head). z.left) head) (ap (λ (z : Head). z.right) head))
+    (ap (λ (z : Head). z.rep) head) (omega (arith, ap (λ (z : Head). z.own) head, bit-small own)) exact.0.exact exact.0.rest
