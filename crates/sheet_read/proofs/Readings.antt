@@ -1,4 +1,5 @@
 -- Laws of readings: the groups of a sheet's lines, and what the code's answers say of them.
+use Rattle.std.specs.Prelude.{Result, Ok, Err, OnOk}
 use mathlib.Core.Path.{◌≡◌, refl, sym, ap, ◌∙◌, subst}
 use mathlib.Core.Bool.{Bool, true, false, cond}
 use mathlib.Core.List.{List, [], ◌∷◌}
@@ -10,38 +11,26 @@ use Rattle.spec_model.specs.Check.{links_of}
 use Rattle.spec_model.specs.Refusals.{form, not_below}
 use Rattle.spec_sheet.specs.Lines.{bytes, Row, row, cut, push, split, Reading, refused, got, Reader, pure, line, follow, bind, times, end_of_input}
 use Rattle.spec_sheet.specs.Text.{newest_form}
-use Rattle.spec_sheet.specs.Sheet.{number_line, end_line, one_type, body, signatures_stand, ending, sheet, sheet_result, read}
+use Rattle.spec_sheet.specs.Sheet.{number_line, end_line, one_type, body, signatures_stand, ending, sheet, sheet_result, malformed, read}
 use Rattle.text_read.proofs.Laws.{from-here, at-end}
 use Rattle.text_cursor.specs.declared.Cursor.{Cursor}
-use Rattle.sheet_read_line.specs.declared.UnderGot.{UnderGot}
-use Rattle.sheet_read_line.specs.declared.UnderGot.TheVariants.{Refused as Refusedᵘ, At as Atᵘ}
-use Rattle.sheet_read_line.specs.View.{under_read}
-use Rattle.table_record.specs.declared.Links.{Links}
-use Rattle.table_record.specs.Store.{raw_links}
+use Rattle.base_numbers.specs.Refusal.{number_of}
+use Rattle.text_read.specs.declared.Malformed.{Malformed}
 use Rattle.sheet_read_type.proofs.Readings.{step-no, step_ok}
+use Rattle.sheet_read_type.specs.View.{done_by}
 use Rattle.sheet_read.specs.declared.Front.{Front}
-use Rattle.sheet_read_type.specs.declared.Done.{Done}
-use Rattle.sheet_read_type.specs.declared.Done.TheVariants.{Refused as Refusedᵈ, At as Atᵈ}
-use Rattle.sheet_read_type.specs.View.{OnDone, done_by}
 use Rattle.sheet_read.specs.View.{each_under, first₁, first, after_count, after_cats, after_first}
 
--- What the cases of an answer say.
-module _ (s : List ℕ) (at : ℕ) (g : UnderGot) (R : Reading (List ℕ)) (is : under_read s at g ≡ R) where
-  pub under-no : (k : ℕ) → g ≡ Refusedᵘ k → refused k at ≡ R
-  under-no k e = ap (under_read s at) (sym e) ∙ is
+-- What the cases of a result say.
+module _ {A : Type 0} (s : List ℕ) (x : A) (r : Result Cursor Malformed) (R : Reading A) (is : done_by s x r ≡ R) where
+  pub done-no : (e : Malformed) → r ≡ Err e → refused (number_of e.refusal) e.at ≡ R
+  done-no e w = ap (done_by s x) (sym w) ∙ is
 
-  pub under-ok : (x : Links) (c : Cursor) → g ≡ Atᵘ x c → got (links_of (raw_links x)) c.at (split (drop c.at s)) ≡ R
-  under-ok x c e = ap (under_read s at) (sym e) ∙ is
+  pub done_ok : (c : Cursor) → r ≡ Ok c → got x c.at (split (drop c.at s)) ≡ R
+  done_ok c w = ap (done_by s x) (sym w) ∙ is
 
-module _ {A : Type 0} (s : List ℕ) (x : A) (r : Done) (R : Reading A) (is : done_by s x r ≡ R) where
-  pub done-no : (k : ℕ) (c : Cursor) → r ≡ Refusedᵈ k c → refused k c.at ≡ R
-  done-no k c e = ap (done_by s x) (sym e) ∙ is
-
-  pub done_ok : (c : Cursor) → r ≡ Atᵈ c → got x c.at (split (drop c.at s)) ≡ R
-  done_ok c e = ap (done_by s x) (sym e) ∙ is
-
-pub on-done : (r : Done) (c : Cursor) (P : Type 0) → r ≡ Atᵈ c → OnDone r P → P
-on-done r c P e h = subst (λ (z : Done). OnDone z P) e h
+pub on-done : (r : Result Cursor Malformed) (c : Cursor) (P : Type 0) → r ≡ Ok c → OnOk r P → P
+on-done r c P w h = subst (λ z. OnOk z P) w h
 
 -- two readers as one
 pub regroup : {A B C : Type 0} (R : Reading A) (k : A → Reader B) (e : B → Reader C) (f : A → Reader C) → ((x : A) (at : ℕ) (rs : List Row) → f x at rs ≡ follow (k x at rs) e)
@@ -71,9 +60,17 @@ first_body at rs =
     (λ s at rs. regroup (line (number_line (bytes "methods=") 1 max_methods) at rs) _ after_first _
     (λ m at rs. regroup (line (number_line (bytes "cats=") 0 max_categories) at rs) _ after_first _ (λ c at rs. refl))))
 
-pub sheet-of : (s : List ℕ) → sheet_result (follow (follow (first 0 (split s)) after_first) ending) ≡ read s
+sheet-of : (s : List ℕ) → sheet_result (follow (follow (first 0 (split s)) after_first) ending) ≡ read s
 unfolding read sheet
 sheet-of s = ap (λ z. sheet_result (follow z ending)) (sym (first_body 0 (split s)))
+
+-- The whole sheet is its first lines and what follows them, put together again.
+module _ (s : List ℕ) where
+  pub first-no : (k a : ℕ) → refused k a ≡ first 0 (split s) → malformed k a ≡ read s
+  first-no k a e = ap (λ z. sheet_result (follow (follow z after_first) ending)) e ∙ sheet-of s
+
+  pub first-ok : (h : Front) (at : ℕ) (rs : List Row) → got h at rs ≡ first 0 (split s) → sheet_result (bind (after_first h) ending at rs) ≡ read s
+  first-ok h at rs e = ap (λ z. sheet_result (follow (follow z after_first) ending)) e ∙ sheet-of s
 
 -- The groups of lines behind the first four.
 module _ (h : Front) (at : ℕ) (rs : List Row) where

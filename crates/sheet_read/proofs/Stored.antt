@@ -10,14 +10,13 @@ use Rattle.spec_model.specs.Basics.{from}
 use Rattle.spec_model.specs.Table.{Table, size, max_categories}
 use Rattle.spec_model.specs.Check.{RawLinks, no_raw_links, links_of}
 use Rattle.spec_model.specs.Records.{links_record}
-use Rattle.table_record.specs.declared.Counts.{Counts}
-use Rattle.table_record.specs.Store.{links_bytes, empty_types, empty_links, empty_counts}
+use Rattle.table_record.specs.Store.{links_bytes, empty_links}
 use Rattle.table_record.specs.Records.{padded, link_bytes_of, type_bytes, link_bytes}
 use Rattle.law_table.proofs.Exact.{padded-next, padded-length}
 use Rattle.law_table.proofs.Whole.{flat-length}
 use Rattle.table_record.proofs.Lists.{from_last, from-same, length_from}
 use Rattle.table_record.specs.Layout.{link_size, links_size}
-use Rattle.spec_sheet.specs.Sheet.{malformed, loaded}
+use Rattle.spec_sheet.specs.Sheet.{loaded}
 use Rattle.sheet_read_type.proofs.Stored.{flat-next}
 use Rattle.sheet_read.specs.declared.Sheet.{Sheet}
 use Rattle.sheet_read.specs.View.{links_to, sheet_for}
@@ -66,7 +65,3 @@ pub sheet-loaded : (t : Table) (b l : List ℕ) (n k : ℕ) → b ≡ type_bytes
     → ◌≡◌ {A = Sheet} (record { refusal = 0; at = 0; types = b; links = l; counts = record { subjects = t.subjects; methods = t.methods; cats = k; sheet = t.sheet; types = n } })
     (sheet_for (loaded t))
 sheet-loaded t b l n k p q r e = cc
-
-pub sheet-malformed : (n at : ℕ) (b l : List ℕ) (c : Counts) → b ≡ empty_types → l ≡ empty_links → c ≡ empty_counts
-    → ◌≡◌ {A = Sheet} (record { refusal = n; at = at; types = b; links = l; counts = c }) (sheet_for (malformed n at))
-sheet-malformed n at b l c p q r = cc

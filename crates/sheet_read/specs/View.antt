@@ -1,24 +1,13 @@
 -- What the reader's results say, in the words of crate `spec_sheet`: the code's records as the model's, and the lines of a sheet in the groups in which the code reads them.
-use Rattle.std.specs.Prelude.{List, [], ℕ, ◌≤◌, get_or, drop}
+use Rattle.std.specs.Prelude.{List, [], ℕ, get_or}
 use Rattle.spec_model.specs.Basics.{from}
 use Rattle.spec_model.specs.Table.{Table, max_subjects, max_methods, max_categories, max_sheet_types}
 use Rattle.spec_model.specs.Check.{RawLinks, no_raw_links, links_of}
-use Rattle.spec_sheet.specs.Lines.{bytes, split, Reading, refused, got, Reader, pure, line, bind, times}
+use Rattle.spec_sheet.specs.Lines.{bytes, Reader, pure, line, bind, times}
 use Rattle.spec_sheet.specs.Text.{newest_form}
 use Rattle.spec_sheet.specs.Sheet.{number_line, under_line, one_type}
 use Rattle.sheet_read.specs.declared.Front.{Front}
-use Rattle.sheet_read.specs.declared.First.{First}
-use Rattle.sheet_read.specs.declared.First.TheVariants.{Refused as Refusedᶠ, At as Atᶠ}
-pub use Rattle.sheet_read.specs.Result.{sheet_for, sheet_of, read_into_of}
-
--- the first four lines of s
-abbrev pub first_by : List ℕ → First → Reading Front
-first_by s (Refusedᶠ k c) = refused k c.at
-first_by s (Atᶠ f c) = got f c.at (split (drop c.at s))
-
-abbrev pub FirstWithin : First → Type 0
-FirstWithin (Refusedᶠ k c) = Unit {0}
-FirstWithin (Atᶠ f c) = (f.methods ≤ max_methods) × (f.cats ≤ max_categories)
+pub use Rattle.sheet_read.specs.Result.{sheet_for, sheet_of, read_into_of, table_of}
 
 -- The broader categories of categories 1 to n.
 unfoldable pub links_to : ℕ → List RawLinks → List (List ℕ)
