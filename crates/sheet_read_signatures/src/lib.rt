@@ -9,18 +9,14 @@ ghost use Rattle.table_record.specs.Store.{raw_method, types_in, types_to};
 ghost use Rattle.spec_sheet.specs.Sheet.{stands};
 ghost use Rattle.sheet_read_signatures.specs.Signatures.{methods_of, stands_at, methods_stand, type_stands};
 
-use base_numbers::wide;
-use table_record::{Head, Method, TYPE_BYTES};
+use table_record::{Method, TYPE_BYTES};
 
 // Whether type a, if it is one of n, may stand in a signature.
 fn stands_at(b: &[u8; TYPE_BYTES], n: usize, a: usize) -> bool
     requires { n ≤ max_types }
     ensures { result ≡ stands_at (types_in b.now) n a }
 {
-    if n <= a {
-        return true;
-    }
-    table_record::may_stand(b, a)
+    n <= a || table_record::may_stand(b, a)
 }
 
 // Whether every argument of a signature may stand there.
@@ -28,17 +24,10 @@ fn args_stand(b: &[u8; TYPE_BYTES], n: usize, m: Method) -> bool
     requires { n ≤ max_types }
     ensures { result ≡ all (stands_at (types_in b.now) n) (take m.count m.args) }
 {
-    let count = wide(m.count);
-    let mut i: usize = 0;
-    while i < Method::SLOTS {
-        if i == count {
-            return true;
-        }
-        let a = wide(m.args[i]);
-        if !stands_at(b, n, a) {
+    for i in 0..usize::from(m.count).min(Method::SLOTS) {
+        if !stands_at(b, n, usize::from(m.args[i])) {
             return false;
         }
-        i += 1;
     }
     true
 }
@@ -54,11 +43,7 @@ fn method_stands(b: &[u8; TYPE_BYTES], n: usize, m: Method) -> bool
     if !args_stand(b, n, m) {
         return false;
     }
-    let a = wide(m.answer);
-    if a == 0 {
-        return true;
-    }
-    stands_at(b, n, a - 1)
+    m.answer == 0 || stands_at(b, n, usize::from(m.answer) - 1)
 }
 
 // whether the signatures of type i do, of m methods
@@ -66,17 +51,13 @@ fn type_stands(b: &[u8; TYPE_BYTES], n: usize, m: usize, i: usize) -> bool
     requires { (n ≤ max_types) × (m ≤ max_methods) × (i < max_types) }
     ensures { result ≡ methods_stand (stands_at (types_in b.now) n) (methods_of m (get_or (types_in b.now) i no_raw_type)) }
 {
-    let h = table_record::get_head(b, i);
-    if h.rep != Head::REF {
+    if !table_record::is_ref(b, i) {
         return true;
     }
-    let mut j: usize = 0;
-    while j < m {
-        let x = table_record::get_method(b, i, j);
-        if !method_stands(b, n, x) {
+    for j in 0..m {
+        if !method_stands(b, n, table_record::get_method(b, i, j)) {
             return false;
         }
-        j += 1;
     }
     true
 }
@@ -86,12 +67,10 @@ pub fn types_stand(b: &[u8; TYPE_BYTES], n: usize, m: usize) -> bool
     requires { (n ≤ max_types) × (m ≤ max_methods) }
     ensures { result ≡ all (type_stands (types_in b.now) n) (types_to m n n (types_in b.now)) }
 {
-    let mut i: usize = 0;
-    while i < n {
+    for i in 0..n {
         if !type_stands(b, n, m, i) {
             return false;
         }
-        i += 1;
     }
     true
 }

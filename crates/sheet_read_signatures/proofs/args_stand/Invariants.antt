@@ -1,6 +1,5 @@
 -- The loop has found that the first i arguments may stand; one that may not ends it (`args-broken`), and past the count all may.
 use mathlib.Core.Path.{◌≡◌}
-use Prim.Native.Nat.{◌≤◌, ◌-◌}
 use lib.ListN.{length, take, drop}
 use Rattle.spec_model.specs.Basics.{all}
 use Rattle.spec_model.specs.Records.{argument_slots}
@@ -9,8 +8,5 @@ use Rattle.sheet_read_signatures.specs.Signatures.{stands_at}
 use Rattle.sheet_read_signatures.proofs.args_stand.Given as goal
 
 abbrev pub invariant-loop-i : goal.invariant-loop-i
-invariant-loop-i l = (l.i ≤ argument_slots) × (l.i ≤ l.count) × (l.count ≡ l.m.count) × (length l.m.args ≡ argument_slots) ×
+invariant-loop-i l = (length l.m.args ≡ argument_slots) ×
     (all (stands_at (types_in l.b) l.n) (take l.m.count l.m.args) ≡ all (stands_at (types_in l.b) l.n) (drop l.i (take l.m.count l.m.args)))
-
-abbrev pub decreases-loop-i : goal.decreases-loop-i
-decreases-loop-i l = 4 - l.i

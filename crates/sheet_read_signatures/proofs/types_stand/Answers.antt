@@ -1,8 +1,8 @@
 use mathlib.Core.Bool.{not}
-use mathlib.Core.Path.{◌≡◌, refl, ap, sym, ◌∙◌}
+use mathlib.Core.Path.{◌≡◌, ap, sym, ◌∙◌}
 use native.Mathlib.Omega.{arith}
 use lib.ListN.{length}
-use borrow.Author.Tests.{not-true, not-false}
+use borrow.Author.Tests.{not-true}
 use Rattle.spec_model.specs.Table.{no_type}
 use Rattle.table_record.proofs.Tables.{types-to-length, types-to-at}
 use Rattle.table_record.specs.Store.{types_in, types_to}
@@ -10,38 +10,26 @@ use Rattle.sheet_read_signatures.proofs.Laws.{all-broken, all-next, all_done}
 use Rattle.sheet_read_signatures.specs.Signatures.{type_stands}
 use Rattle.sheet_read_signatures.proofs.types_stand.Goals as goal
 
-pub loop-i-init : goal.loop-i-init
-loop-i-init c = (omega arith, refl)
-
 pub returns-then-not-type_stands : goal.returns-then-not-type_stands
 returns-then-not-type_stands c =
-    let c2 = c in
-    let c3 = c2 in
-    let c4 = c3 in
-    let a = c4.args in
-    let p = c3.loop-i in
+    let a = c.args in
+    let p = c.loop-i in
     let rs = types_in a.b.now in
     let ts = types_to a.m a.n a.n rs in
     let l : length ts ≡ a.n = types-to-length a.m a.n rs a.n in
-    all-broken (type_stands rs a.n) ts p.i no_type p.invariant.1 (omega arith)
-    (ap (type_stands rs a.n) (types-to-at a.m a.n rs a.n p.i no_type c2.loop-i-test.true) ∙ sym c.type_stands.ensures
+    all-broken (type_stands rs a.n) ts p.i no_type p.invariant (omega arith)
+    (ap (type_stands rs a.n) (types-to-at a.m a.n rs a.n p.i no_type c.loop-i-test.true) ∙ sym c.type_stands.ensures
     ∙ not-true c.type_stands.result (ap not c.if-not-type_stands.true))
 
 pub loop-i-preserved : goal.loop-i-preserved
 loop-i-preserved c =
-    let c2 = c in
-    let c3 = c2 in
-    let c4 = c3 in
-    let a = c4.args in
-    let p = c3.loop-i in
+    let a = c.args in
+    let p = c.loop-i in
     let rs = types_in a.b.now in
     let ts = types_to a.m a.n a.n rs in
-    let l : length ts ≡ a.n = types-to-length a.m a.n rs a.n in (
-      omega arith,
-      all-next (type_stands rs a.n) ts p.i no_type p.invariant.1 (omega arith)
-          (ap (type_stands rs a.n) (types-to-at a.m a.n rs a.n p.i no_type c2.loop-i-test.true) ∙ sym c.type_stands.ensures
-          ∙ not-false c.type_stands.result (ap not c.if-not-type_stands.false)),
-    )
+    let l : length ts ≡ a.n = types-to-length a.m a.n rs a.n in
+    all-next (type_stands rs a.n) ts p.i no_type p.invariant (omega arith)
+    (ap (type_stands rs a.n) (types-to-at a.m a.n rs a.n p.i no_type c.loop-i-test.true) ∙ sym c.type_stands.ensures ∙ c.if-not-type_stands.false)
 
 pub returns : goal.returns
 returns c =
@@ -50,4 +38,4 @@ returns c =
     let rs = types_in a.b.now in
     let ts = types_to a.m a.n a.n rs in
     let l : length ts ≡ a.n = types-to-length a.m a.n rs a.n in
-    all_done (type_stands rs a.n) ts p.i no_type p.invariant.1 (omega arith)
+    all_done (type_stands rs a.n) ts p.i no_type p.invariant (omega arith)

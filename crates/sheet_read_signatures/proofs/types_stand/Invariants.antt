@@ -1,6 +1,5 @@
 -- The loop has found that the first i types' signatures may stand; one that may not ends it.
 use mathlib.Core.Path.{◌≡◌}
-use Prim.Native.Nat.{◌≤◌, ◌-◌}
 use lib.ListN.{drop}
 use Rattle.spec_model.specs.Basics.{all}
 use Rattle.table_record.specs.Store.{types_in, types_to}
@@ -8,7 +7,4 @@ use Rattle.sheet_read_signatures.specs.Signatures.{type_stands}
 use Rattle.sheet_read_signatures.proofs.types_stand.Given as goal
 
 abbrev pub invariant-loop-i : goal.invariant-loop-i
-invariant-loop-i l = (l.i ≤ l.n) × (all (type_stands (types_in l.b) l.n) (types_to l.m l.n l.n (types_in l.b)) ≡ all (type_stands (types_in l.b) l.n) (drop l.i (types_to l.m l.n l.n (types_in l.b))))
-
-abbrev pub decreases-loop-i : goal.decreases-loop-i
-decreases-loop-i l = l.n - l.i
+invariant-loop-i l = (all (type_stands (types_in l.b) l.n) (types_to l.m l.n l.n (types_in l.b)) ≡ all (type_stands (types_in l.b) l.n) (drop l.i (types_to l.m l.n l.n (types_in l.b))))
