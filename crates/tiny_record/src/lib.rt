@@ -9,8 +9,7 @@ ghost use Rattle.spec_tiny.specs.Tiny.{tiny_count};
 ghost use Rattle.spec_tiny.specs.Numbered.{tiny_at};
 ghost use Rattle.tiny_record.specs.Plan.{bare_raw, signed_raw, choice_raw, plan_of, plan_raw, tiny_counts};
 
-use base_numbers::narrow;
-use table_record::{Counts, Head, Method, TypeRec};
+use table_record::{Counts, Method, TypeRec};
 
 // What may be said of a method: four signatures for each of two states beside denied and unavail, with own=yes one (P23).
 const CHOICES: usize = 10;
@@ -29,7 +28,7 @@ pub const SHEETS: usize = TWO_OWN + OWN_CHOICES * OWN_CHOICES;
 // A sheet by its choices: own, and what is said of the first method and of the second.
 #[derive(Clone, Copy)]
 struct Plan {
-    own: u8,
+    own: bool,
     first: usize,
     second: usize,
 }
@@ -40,7 +39,7 @@ fn bare(state: u8) -> Method
     Method {
         state,
         count: 0,
-        args: [0u8; Method::SLOTS],
+        args: [0; Method::SLOTS],
         answer: 0,
     }
 }
@@ -50,69 +49,59 @@ fn signed(state: u8, j: usize) -> Method
     requires { j < 4 }
     ensures { raw_method result ≡ signed_raw state j }
 {
-    let count = narrow(j / 2);
-    let answer = narrow(j % 2);
     Method {
         state,
-        count,
-        args: [0u8; Method::SLOTS],
-        answer,
+        count: (j / 2) as u8,
+        args: [0; Method::SLOTS],
+        answer: (j % 2) as u8,
     }
 }
 
 // Choice k (P23).
-fn choice(own: u8, k: usize) -> Method
+fn choice(own: bool, k: usize) -> Method
     requires { k < 10 }
     ensures { raw_method result ≡ choice_raw own k }
 {
-    if k == 0 {
-        return bare(Method::DENIED);
+    match k {
+        0 => bare(Method::DENIED),
+        1 => bare(Method::UNAVAIL),
+        2 if own => bare(Method::AVAIL),
+        _ if own => bare(Method::OPTIONAL),
+        2..=5 => signed(Method::AVAIL, k - 2),
+        _ => signed(Method::OPTIONAL, k - 6),
     }
-    if k == 1 {
-        return bare(Method::UNAVAIL);
-    }
-    if own == Head::OWN {
-        if k == 2 {
-            return bare(Method::AVAIL);
-        }
-        return bare(Method::OPTIONAL);
-    }
-    if k < 6 {
-        return signed(Method::AVAIL, k - 2);
-    }
-    signed(Method::OPTIONAL, k - 6)
 }
 
 // The choices of sheet i, the first method as the slowest (P24).
+#[tactic(auto, unfolding(crate::specs::Plan::plan_of))]
 fn planned(i: usize) -> Plan
     requires { i < tiny_count }
     ensures { result ≡ plan_of i }
 {
     if i < ONE_OWN {
-        return Plan {
-            own: 0,
+        Plan {
+            own: false,
             first: i,
             second: 0,
-        };
-    }
-    if i < TWO {
-        return Plan {
-            own: Head::OWN,
+        }
+    } else if i < TWO {
+        Plan {
+            own: true,
             first: i - ONE_OWN,
             second: 0,
-        };
-    }
-    if i < TWO_OWN {
-        return Plan {
-            own: 0,
+        }
+    } else if i < TWO_OWN {
+        Plan {
+            own: false,
             first: (i - TWO) / CHOICES,
             second: (i - TWO) % CHOICES,
-        };
-    }
-    Plan {
-        own: Head::OWN,
-        first: (i - TWO_OWN) / OWN_CHOICES,
-        second: (i - TWO_OWN) % OWN_CHOICES,
+        }
+    } else {
+        Plan {
+            own: true,
+            first: (i - TWO_OWN) / OWN_CHOICES,
+            second: (i - TWO_OWN) % OWN_CHOICES,
+        }
     }
 }
 
@@ -121,19 +110,11 @@ fn planned_record(p: Plan) -> TypeRec
     requires { (p.first < 10) × (p.second < 10) }
     ensures { raw_of result ≡ plan_raw p }
 {
-    let a = choice(p.own, p.first);
-    let b = choice(p.own, p.second);
-    let e = Method::empty();
-    let methods = [a, b, e, e, e, e, e, e, e, e, e, e, e, e, e, e];
-    let head = Head {
-        rep: Head::REF,
-        cat: 0,
-        own: p.own,
-        kind: 0,
-        left: 0,
-        right: 0,
-    };
-    TypeRec { head, methods }
+    let mut t = TypeRec::empty();
+    t.head.own = u8::from(p.own);
+    t.methods[0] = choice(p.own, p.first);
+    t.methods[1] = choice(p.own, p.second);
+    t
 }
 
 // The record of the type of sheet i.
@@ -141,8 +122,7 @@ pub fn type_of(i: usize) -> TypeRec
     requires { i < tiny_count }
     ensures { raw_of result ≡ type_record (type_at (tiny_at i) 0) }
 {
-    let p = planned(i);
-    planned_record(p)
+    planned_record(planned(i))
 }
 
 // The counts of the table of sheet i.
@@ -150,13 +130,9 @@ pub fn counts_of(i: usize) -> Counts
     requires { i < tiny_count }
     ensures { result ≡ tiny_counts (tiny_at i).methods }
 {
-    let mut methods = 1;
-    if TWO <= i {
-        methods = 2;
-    }
     Counts {
         subjects: 1,
-        methods,
+        methods: if i < TWO { 1 } else { 2 },
         cats: 0,
         sheet: 1,
         types: 1,

@@ -5,7 +5,7 @@ use Rattle.tiny_record.proofs.Laws.{plan-small, plan-is}
 use Rattle.tiny_record.proofs.type_of.Goals as goal
 
 pub planned_record-requires : goal.planned_record-requires
-planned_record-requires c = plan-small _ _ c.planned-p.ensures c.requires
+planned_record-requires c = plan-small _ _ c.planned.ensures c.requires
 
 pub returns : goal.returns
-returns c = c.planned_record.ensures ∙ ap plan_raw c.planned-p.ensures ∙ plan-is _ c.requires
+returns c = c.planned_record.ensures ∙ ap plan_raw c.planned.ensures ∙ plan-is _ c.requires
