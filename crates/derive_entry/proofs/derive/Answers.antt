@@ -12,14 +12,13 @@ derive_named-requires c =
 
 pub returns-then-table_fits : goal.returns-then-table_fits
 returns-then-table_fits c =
-    let s = c in
-    let a = s.args in
-    let d = rw (to_z-of_z s.ranges.t, to_z-of_z s.ranges.s) at c.derive_named.ensures in
+    let a = c.args in
+    let d = rw (to_z-of_z c.ranges.t, to_z-of_z c.ranges.s) at c.derive_named.ensures in
     let fit = sym c.table_fits.ensures ∙ c.if-table_fits.true in
     derives-as (d a.l.now) (handed-fit a.b.now a.l.now a.c a.kind a.t a.s fit)
 
-pub returns : goal.returns
-returns c =
+pub returns-else-table_fits : goal.returns-else-table_fits
+returns-else-table_fits c =
     let a = c.args in
     let unfit = sym c.table_fits.ensures ∙ c.if-table_fits.false in
     refused-derives a.b.now a.l.now a.c refl (handed-unfit a.b.now a.l.now a.c a.kind a.t a.s unfit)
