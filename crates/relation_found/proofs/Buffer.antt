@@ -11,7 +11,7 @@ use lib.Dec.{leb}
 use lib.ListN.{length, get_or, set, length-map, get_or-map}
 use lib.Seq.{map-set_same}
 use Rattle.table_record.proofs.Lists.{lt-or-ge}
-use Rattle.relation_found.specs.declared.Step.TheVariants.{Tail}
+use Rattle.std.specs.Prelude.{Some}
 use Rattle.relation_found.specs.Found.{marks_in, queue_in, Added, ListedIn, MetIn}
 use Rattle.relation_found.proofs.Pairs.{in_rows, pair-new}
 use Rattle.spec_model.specs.Table.{max_types}
@@ -75,5 +75,5 @@ module _ (b : List ℕ) (t p : ℕ) (l : p < 32768) where
     added = (added-marks, added-queue)
 
 pub pair-added : (n : ℕ) (b : List ℕ) (t x y : ℕ) → ListedIn n b t → x < n → y < n → get_or (marks_in b) (x * max_types + y) false ≡ false
-    → (b' : List ℕ) (r : ℕ) → (r ≡ t + 1) × Added b t (x * max_types + y) b' → MetIn n (λ M. M x y) b t b' (Tail r)
+    → (b' : List ℕ) (r : ℕ) → (r ≡ t + 1) × Added b t (x * max_types + y) b' → MetIn n (λ M. M x y) b t b' (Some r)
 pair-added n b t x y h p q e b' r k = rw (k.0, k.1.0, k.1.1) (pair-new n (marks_in b) (queue_in b) t x y h p q e)

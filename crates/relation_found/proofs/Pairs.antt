@@ -15,8 +15,7 @@ use Rattle.spec_model.proofs.Rules.{never, both, first, second}
 use Rattle.spec_model.specs.Relations.{bit, yeses}
 use Rattle.spec_model.specs.Table.{max_types}
 use Rattle.table_record.proofs.Lists.{same_or}
-use Rattle.relation_found.specs.declared.Step.{Step}
-use Rattle.relation_found.specs.declared.Step.TheVariants.{Broken, Tail}
+use Rattle.std.specs.Prelude.{Option, Some, None}
 use Rattle.relation_found.specs.Found.{found, Within, Queued, Pair, Listed, Grew, Broke, Met, max_pairs}
 
 pub clash : {A : Type 0} → {b : Bool} → b ≡ true → b ≡ false → A
@@ -194,10 +193,10 @@ module _ (n : ℕ) (W U : (ℕ → ℕ → Bool) → Bool) (s : List Bool) (l : 
       → Grew n W s l t s' l' r → Grew n U s l t s' l' r
   grew-as s' l' r f g w = record { listed = w.listed; more = w.more; kept = w.kept; longer = w.longer; has = f (found n s') w.has; only = λ M v. w.only M (g M v) }
 
-  pub met-as : (s' : List Bool) (l' : List ℕ) (r : Step) → ((M : ℕ → ℕ → Bool) → So (W M) → So (U M)) → ((M : ℕ → ℕ → Bool) → So (U M) → So (W M))
+  pub met-as : (s' : List Bool) (l' : List ℕ) (r : Option ℕ) → ((M : ℕ → ℕ → Bool) → So (W M) → So (U M)) → ((M : ℕ → ℕ → Bool) → So (U M) → So (W M))
       → Met n W s l t s' l' r → Met n U s l t s' l' r
-  met-as s' l' Broken f g b = broke-as n W U g b
-  met-as s' l' (Tail r) f g w = grew-as s' l' r f g w
+  met-as s' l' None f g b = broke-as n W U g b
+  met-as s' l' (Some r) f g w = grew-as s' l' r f g w
 
   pub grew_then : (s₁ : List Bool) (l₁ : List ℕ) (t₁ : ℕ) (s₂ : List Bool) (l₂ : List ℕ) (t₂ : ℕ) → Mono W → Grew n W s l t s₁ l₁ t₁
       → Grew n U s₁ l₁ t₁ s₂ l₂ t₂ → Grew n
@@ -212,7 +211,7 @@ module _ (n : ℕ) (W U : (ℕ → ℕ → Bool) → Bool) (s : List Bool) (l : 
     only = λ M w i. b.only M (second (W M) _ w) (a.only M (first (W M) _ w) i);
   }
 
-  pub met-then : (s₁ : List Bool) (l₁ : List ℕ) (t₁ : ℕ) (s₂ : List Bool) (l₂ : List ℕ) (r : Step) → Mono W → Grew n W s l t s₁ l₁ t₁ → Met n U s₁ l₁ t₁ s₂ l₂ r
+  pub met-then : (s₁ : List Bool) (l₁ : List ℕ) (t₁ : ℕ) (s₂ : List Bool) (l₂ : List ℕ) (r : Option ℕ) → Mono W → Grew n W s l t s₁ l₁ t₁ → Met n U s₁ l₁ t₁ s₂ l₂ r
       → Met n (λ M. W M && U M) s l t s₂ l₂ r
-  met-then s₁ l₁ t₁ s₂ l₂ Broken m a b = broke-as n U (λ M. W M && U M) (λ M w. second (W M) _ w) b
-  met-then s₁ l₁ t₁ s₂ l₂ (Tail t₂) m a b = grew_then s₁ l₁ t₁ s₂ l₂ t₂ m a b
+  met-then s₁ l₁ t₁ s₂ l₂ None m a b = broke-as n U (λ M. W M && U M) (λ M w. second (W M) _ w) b
+  met-then s₁ l₁ t₁ s₂ l₂ (Some t₂) m a b = grew_then s₁ l₁ t₁ s₂ l₂ t₂ m a b

@@ -11,15 +11,14 @@ use Rattle.spec_model.specs.Relations.{Relation, state_rule, args_rule, answer_r
 use Rattle.spec_model.specs.Check.{RawMethod, state_of, answer_of, method_of}
 use Rattle.spec_model.proofs.Rules.{first}
 use Rattle.spec_model.specs.Records.{argument_slots}
-use Rattle.relation_found.specs.declared.Step.{Step}
-use Rattle.relation_found.specs.declared.Step.TheVariants.{Tail}
+use Rattle.std.specs.Prelude.{Option, Some}
 use Rattle.relation_found.specs.Found.{found, Listed, Grew, Broke, Met}
 use Rattle.relation_found.proofs.Pairs.{stay, broke-as, grew-as, met-as, grew_then, met-then}
 use Rattle.relation_found.proofs.Signatures.{args-differ, args-need, args-next, answer-none, answer-left, answer-right, answer-both, method-state, method-off, method-on, args-up}
 
 -- the same test by another name
 met-same : (n : ℕ) (W U : (ℕ → ℕ → Bool) → Bool) → ((M : ℕ → ℕ → Bool) → U M ≡ W M)
-    → (s : List Bool) (l : List ℕ) (t : ℕ) (s' : List Bool) (l' : List ℕ) (r : Step)
+    → (s : List Bool) (l : List ℕ) (t : ℕ) (s' : List Bool) (l' : List ℕ) (r : Option ℕ)
     → Met n W s l t s' l' r → Met n U s l t s' l' r
 met-same n W U e s l t s' l' r m = met-as n W U s l t s' l' r (λ M h. e M ∙ h) (λ M h. sym (e M) ∙ h) m
 
@@ -38,7 +37,7 @@ module _ (n x y a b : ℕ) (p : a ≡ x) (q : b ≡ y) where
     pub answers-none : Listed n s l t → a ≡ 0 → b ≡ 0 → Grew n Answer s l t s l t
     answers-none h u v = stay n Answer s l t h (answer-none (found n s) x y (sym p ∙ u) (sym q ∙ v))
 
-    pub answers-both : (s' : List Bool) (l' : List ℕ) (r : Step) → (a ≡ 0 → ⊥) → (b ≡ 0 → ⊥) → Met n (λ M. M (a - 1) (b - 1)) s l t s' l' r
+    pub answers-both : (s' : List Bool) (l' : List ℕ) (r : Option ℕ) → (a ≡ 0 → ⊥) → (b ≡ 0 → ⊥) → Met n (λ M. M (a - 1) (b - 1)) s l t s' l' r
         → Met n Answer s l t s' l' r
     answers-both s' l' r u v m = met-same n (λ M. M (a - 1) (b - 1)) Answer (λ M. answer-both M x y (λ e. u (p ∙ e)) (λ e. v (q ∙ e)) ∙ rw (p, q)) s l t s' l' r m
 
@@ -66,7 +65,7 @@ module _ (n : ℕ) (xs ys : List ℕ) (lx : length xs ≡ argument_slots) (ly : 
       pub arguments-end : u ≤ m → m ≤ u → Grew n Args s l t s₁ l₁ t₁
       arguments-end p q =
           let d : m ≡ u = omega arith in
-          met-same n (First u) Args args-used s l t s₁ l₁ (Tail t₁) (subst (λ (k : ℕ). Grew n (First k) s l t s₁ l₁ t₁) d g)
+          met-same n (First u) Args args-used s l t s₁ l₁ (Some t₁) (subst (λ (k : ℕ). Grew n (First k) s l t s₁ l₁ t₁) d g)
 
       pub arguments-more : m < u → (x y : ℕ) → x ≡ get_or xs m 0 → y ≡ get_or ys m 0 → (s₂ : List Bool) (l₂ : List ℕ) (t₂ : ℕ)
           → Grew n (λ M. M y x) s₁ l₁ t₁ s₂ l₂ t₂
@@ -106,7 +105,7 @@ module _ (n : ℕ) (k : Relation) (x y : RawMethod) (f : Bool) (fe : f ≡ state
 
       -- the answers' codes were read as a and b
       pub method-answer : (s : List Bool) (l : List ℕ) (t : ℕ) (s₁ : List Bool) (l₁ : List ℕ) (t₁ : ℕ) → Grew n Q₁ s l t s₁ l₁ t₁
-          → (s₂ : List Bool) (l₂ : List ℕ) (r : Step) (a b : ℕ) → a ≡ x.answer → b ≡ y.answer
+          → (s₂ : List Bool) (l₂ : List ℕ) (r : Option ℕ) (a b : ℕ) → a ≡ x.answer → b ≡ y.answer
           → Met n (λ M. answer_rule M (answer_of a) (answer_of b)) s₁ l₁ t₁ s₂ l₂ r → Met n Q s l t s₂ l₂ r
       method-answer s l t s₁ l₁ t₁ m s₂ l₂ r a b p q m' =
           met-same n (λ M. Q₁ M && Q₂ M) Q on-is s l t s₂ l₂ r

@@ -1,11 +1,9 @@
 -- A relation is the largest that keeps its rules (R3): a pair is in it unless a pair that breaks its rule can be reached from it. So a search finds pairs, each once,
 -- and asks the rule of each, which finds more. Here is what is found so far, and what a step of the search promises.
-use Rattle.std.specs.Prelude.{◌≡◌, Bool, true, false, ◌&&◌, List, map, ℕ, ◌+◌, ◌*◌, ◌/◌, ◌%◌, ◌≤◌, ◌<◌, leb, ltb, length, get_or, set}
+use Rattle.std.specs.Prelude.{Option, Some, None, ◌≡◌, Bool, true, false, ◌&&◌, List, map, ℕ, ◌+◌, ◌*◌, ◌/◌, ◌%◌, ◌≤◌, ◌<◌, leb, ltb, length, get_or, set}
 use Rattle.std.proofs.Math.Bool.{So}
 use Rattle.spec_model.specs.Relations.{yeses}
 use Rattle.spec_model.specs.Table.{max_types}
-use Rattle.relation_found.specs.declared.Step.{Step}
-use Rattle.relation_found.specs.declared.Step.TheVariants.{Broken, Tail}
 
 -- how many pairs of types there can be
 abbrev pub max_pairs : ℕ
@@ -57,9 +55,9 @@ pub record Broke (n : ℕ) (W : (ℕ → ℕ → Bool) → Bool) : Type 0 where
   pub none : (M : ℕ → ℕ → Bool) → Within M (λ x y. ltb x n && ltb y n) → So (W M) → ⊥
 
 -- what a step promises
-abbrev pub Met : ℕ → ((ℕ → ℕ → Bool) → Bool) → List Bool → List ℕ → ℕ → List Bool → List ℕ → Step → Type 0
-Met n W marks queue t marks' queue' Broken = Broke n W
-Met n W marks queue t marks' queue' (Tail r) = Grew n W marks queue t marks' queue' r
+abbrev pub Met : ℕ → ((ℕ → ℕ → Bool) → Bool) → List Bool → List ℕ → ℕ → List Bool → List ℕ → Option ℕ → Type 0
+Met n W marks queue t marks' queue' None = Broke n W
+Met n W marks queue t marks' queue' (Some r) = Grew n W marks queue t marks' queue' r
 
 -- The search has `marks` and the queue in one array of 16-bit entries, since a pair's number is below `max_pairs`: entry i has the i-th number of the queue in its low
 -- 15 bits, and its top bit says whether the pair of number i is found.
@@ -77,5 +75,5 @@ Added b t p b' = (marks_in b' ≡ set (marks_in b) p true) × (queue_in b' ≡ s
 abbrev pub ListedIn : ℕ → List ℕ → ℕ → Type 0
 ListedIn n b t = Listed n (marks_in b) (queue_in b) t
 
-abbrev pub MetIn : ℕ → ((ℕ → ℕ → Bool) → Bool) → List ℕ → ℕ → List ℕ → Step → Type 0
+abbrev pub MetIn : ℕ → ((ℕ → ℕ → Bool) → Bool) → List ℕ → ℕ → List ℕ → Option ℕ → Type 0
 MetIn n W b t b' r = Met n W (marks_in b) (queue_in b) t (marks_in b') (queue_in b') r

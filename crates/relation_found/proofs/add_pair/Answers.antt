@@ -7,5 +7,4 @@ use Rattle.relation_found.proofs.add_pair.Goals as goal
 pub returns : goal.returns
 returns c =
     let a = c.args in
-    let wide16 = c.wide16-top in
-    (refl, added a.found.now a.tail a.p (omega arith) wide16.result wide16.ensures.0)
+    (refl, added a.found.now a.tail a.p (omega arith) c.from-top.result c.from-top.ensures)

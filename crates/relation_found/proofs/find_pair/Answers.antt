@@ -8,6 +8,7 @@ use Rattle.relation_found.specs.Found.{marks_in, queue_in}
 use Rattle.relation_found.proofs.Pairs.{pair_left, pair-right, pair-seen, room}
 use Rattle.relation_found.proofs.Buffer.{mark-at, buffer-length, entry_in, pair-added}
 use Rattle.relation_found.proofs.find_pair.Goals as goal
+use Rattle.relation_found.proofs.find_pair.Goals.{then-n-x-via-then-n-x, then-n-x-via-else-n-x+then-n-y}
 
 pub overflow_mul-p : goal.overflow_mul-p
 overflow_mul-p c =
@@ -42,13 +43,15 @@ returns-then-is_found c =
     pair-seen a.n (marks_in a.found.now) (queue_in a.found.now) a.tail a.x a.y pre i.1 known
 
 pub returns-then-n-x : goal.returns-then-n-x
-returns-then-n-x c = let a = c.args in pair_left a.n a.x a.y c.if-n-x.true
+returns-then-n-x c =
+    let a = c.args in
+    elim c.then-n-x.branch [
+      | then-n-x-via-then-n-x w ↦ pair_left a.n a.x a.y w.if-n-x.true
+      | then-n-x-via-else-n-x+then-n-y w ↦ pair-right a.n a.x a.y w.if-n-y.true
+    ]
 
-pub returns-then-n-y : goal.returns-then-n-y
-returns-then-n-y c = let a = c.args in pair-right a.n a.x a.y c.if-n-y.true
-
-pub add_pair-more-requires : goal.add_pair-more-requires
-add_pair-more-requires c =
+pub add_pair-requires : goal.add_pair-requires
+add_pair-requires c =
     let a = c.args in
     let pre = c.requires in
     let is_found = c.is_found in
@@ -65,7 +68,7 @@ returns c =
     let pre = c.requires in
     let is_found = c.is_found in
     let if2 = c.if-is_found in
-    let add-pair = c.add_pair-more in
+    let add-pair = c.add_pair in
     let new = mark-at a.found.now (a.x * max_types + a.y) is_found.result false is_found.ensures if2.false in
     pair-added a.n a.found.now a.tail a.x a.y pre c.if-n-x.false c.if-n-y.false new
     add-pair.new.found add-pair.result add-pair.ensures

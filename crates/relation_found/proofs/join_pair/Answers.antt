@@ -8,12 +8,15 @@ use Rattle.relation_found.proofs.Pairs.{pair_left, pair-right, pair-known, room}
 use Rattle.relation_found.proofs.Buffer.{mark-at, buffer-length, pair-added}
 use Rattle.spec_model.specs.Table.{max_types}
 use Rattle.relation_found.proofs.join_pair.Goals as goal
+use Rattle.relation_found.proofs.join_pair.Goals.{then-n-x-via-then-n-x, then-n-x-via-else-n-x+then-n-y}
 
 pub returns-then-n-x : goal.returns-then-n-x
-returns-then-n-x c = let a = c.args in pair_left a.n a.x a.y c.if-n-x.true
-
-pub returns-then-n-y : goal.returns-then-n-y
-returns-then-n-y c = let a = c.args in pair-right a.n a.x a.y c.if-n-y.true
+returns-then-n-x c =
+    let a = c.args in
+    elim c.then-n-x.branch [
+      | then-n-x-via-then-n-x w ↦ pair_left a.n a.x a.y w.if-n-x.true
+      | then-n-x-via-else-n-x+then-n-y w ↦ pair-right a.n a.x a.y w.if-n-y.true
+    ]
 
 pub bounds-found-p : goal.bounds-found-p
 bounds-found-p c =
@@ -32,8 +35,8 @@ returns-then-is_found c =
     let known = mark-at a.found.now (a.x * max_types + a.y) is_found.result true is_found.ensures if3.true in
     pair-known a.n (marks_in a.found.now) (queue_in a.found.now) a.tail a.x a.y pre if1.false if2.false known
 
-pub add_pair-more-requires : goal.add_pair-more-requires
-add_pair-more-requires c =
+pub add_pair-requires : goal.add_pair-requires
+add_pair-requires c =
     let a = c.args in
     let pre = c.requires in
     let is_found = c.is_found in
@@ -54,6 +57,6 @@ returns c =
     let if2 = c.if-n-y in
     let is_found = c.is_found in
     let if3 = c.if-is_found in
-    let add-pair = c.add_pair-more in
+    let add-pair = c.add_pair in
     let new = mark-at a.found.now (a.x * max_types + a.y) is_found.result false is_found.ensures if3.false in
     pair-added a.n a.found.now a.tail a.x a.y pre if1.false if2.false new add-pair.new.found add-pair.result add-pair.ensures
