@@ -8,7 +8,9 @@ use lib.Dec.{ltb}
 use lib.IntN.{ℤ}
 use lib.ListN.{length, get_or}
 use borrow.Author.Tests.{lt-ltb, le-ltb}
-use Rattle.spec_model.specs.Basics.{ok}
+use Rattle.spec_model.specs.Basics.{Res, refuse, ok}
+use Rattle.spec_model.specs.Refusals.{out_of_range, unknown_type}
+use Rattle.spec_model.specs.Relations as Model
 use Rattle.spec_model.specs.Table.{Table, size, max_sheet_types}
 use Rattle.spec_model.specs.Relations.{compare}
 use Rattle.spec_model.specs.Check.{table_of, table_accepted, compare_handed}
@@ -19,24 +21,20 @@ use Rattle.relation_compare.specs.declared.Comparison.{Comparison}
 use Rattle.relation_compare.specs.Comparing.{comparison_of, comparison_at}
 use Rattle.base_numbers.specs.Index.{index_of}
 use Rattle.base_numbers.proofs.Laws.{index-unknown, index-known}
-use Rattle.relation_compare.specs.declared.Compared.{Compared}
-use Rattle.relation_compare.specs.declared.Compared.TheVariants.{Unfit, Unknown, Comparison as Given}
-use Rattle.relation_compare.specs.declared.Pairs.{Pairs}
-use Rattle.relation_compare.specs.Compared.{compared_of, pairs_given}
-use Rattle.relation_compare.specs.Pairs.{pair_code, pair_entry, pair_table, no_pairs, pairs_handed, pairs_size}
+use Rattle.relation_compare.specs.Pairs.{pair_code, pair_entry, pair_table, pairs_handed, pairs_size}
 
 -- Compare, where x and y are the indices of the numbers handed in.
 module _ (T : Table) (a b : ℤ) (x : ℕ) (ex : x ≡ index_of a (size T)) where
-  pub compare-left : size T ≤ x → compared_of Unknown ≡ compare T a b
+  pub compare-left : size T ≤ x → refuse unknown_type ≡ compare T a b
   unfolding compare
   compare-left l = rw (index-unknown a (size T) x ex l)
 
   module _ (p : x < size T) (y : ℕ) (ey : y ≡ index_of b (size T)) where
-    pub compare-right : size T ≤ y → compared_of Unknown ≡ compare T a b
+    pub compare-right : size T ≤ y → refuse unknown_type ≡ compare T a b
     unfolding compare
     compare-right l = rw ((index-known a (size T) x ex p).0, index-unknown b (size T) y ey l)
 
-    pub compare-all : y < size T → (r : Comparison) → comparison_of r ≡ comparison_at T x y → compared_of (Given r) ≡ compare T a b
+    pub compare-all : y < size T → (r : Comparison) → comparison_of r ≡ comparison_at T x y → ok (comparison_of r) ≡ compare T a b
     unfolding compare
     compare-all q r h =
         let k = index-known a (size T) x ex p in
@@ -75,21 +73,20 @@ pair-at T t s p q =
 
 -- Compare on a table handed in: by whether it is accepted.
 module _ (b l : List ℕ) (c : Counts) (t s : ℤ) where
-  pub compare-fit : (r : Compared) → table_accepted (raw_table b l c) ≡ true → compared_of r ≡ compare (table_in b l c) t s → compared_of r ≡ compare_handed (raw_table b l c) t s
+  pub compare-fit : (r : Res Model.Comparison) → table_accepted (raw_table b l c) ≡ true → r ≡ compare (table_in b l c) t s → r ≡ compare_handed (raw_table b l c) t s
   unfolding compare_handed table_in
   compare-fit r e h = h ∙ rw e
 
-  pub compare-unfit : table_accepted (raw_table b l c) ≡ false → compared_of Unfit ≡ compare_handed (raw_table b l c) t s
+  pub compare-unfit : table_accepted (raw_table b l c) ≡ false → refuse out_of_range ≡ compare_handed (raw_table b l c) t s
   unfolding compare_handed
   compare-unfit e = rw e
 
 -- The pair table of a table handed in.
-module _ (b l : List ℕ) (c : Counts) (entries : List ℕ) where
-  pub pairs-fit : table_accepted (raw_table b l c) ≡ true → entries ≡ pair_table (table_in b l c)
-      → ◌≡◌ {A = Pairs} (record { fits = true; entries = entries }) (pairs_given (pairs_handed (raw_table b l c)))
+module _ (b l : List ℕ) (c : Counts) where
+  pub pairs-fit : (entries : List ℕ) → table_accepted (raw_table b l c) ≡ true → entries ≡ pair_table (table_in b l c) → ok entries ≡ pairs_handed (raw_table b l c)
   unfolding pairs_handed table_in
-  pairs-fit e h = rw (e, h)
+  pairs-fit entries e h = rw (e, h)
 
-  pub pairs-unfit : table_accepted (raw_table b l c) ≡ false → entries ≡ no_pairs → ◌≡◌ {A = Pairs} (record { fits = false; entries = entries }) (pairs_given (pairs_handed (raw_table b l c)))
+  pub pairs-unfit : table_accepted (raw_table b l c) ≡ false → refuse out_of_range ≡ pairs_handed (raw_table b l c)
   unfolding pairs_handed
-  pairs-unfit e h = rw (e, h)
+  pairs-unfit e = rw e

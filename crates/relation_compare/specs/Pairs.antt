@@ -1,5 +1,5 @@
 -- The pair table of a sheet (B24): for each pair of sheet types one byte, in which subtype counts 1, strict 2, loose 4 and free 8. (T, S) stands at T * max_sheet_types + S.
-use Rattle.std.specs.Prelude.{◌&&◌, cond, List, ℕ, ◌+◌, ◌*◌, ◌/◌, ◌%◌, ltb, replicate}
+use Rattle.std.specs.Prelude.{◌&&◌, cond, List, ℕ, ◌+◌, ◌*◌, ◌/◌, ◌%◌, ltb}
 use Rattle.spec_model.specs.Basics.{Res, ok, need, from}
 use Rattle.spec_model.specs.Table.{Table, max_sheet_types}
 use Rattle.spec_model.specs.Relations.{Comparison, bit}
@@ -20,9 +20,6 @@ pair_entry t a b = cond (ltb a t.sheet && ltb b t.sheet) (pair_code (comparison_
 unfoldable pub pair_table : Table → List ℕ
 unfolding from
 pair_table t = from pairs_size 0 (λ p. pair_entry t (p / max_sheet_types) (p % max_sheet_types))
-
-unfoldable pub no_pairs : List ℕ
-no_pairs = replicate pairs_size 0
 
 -- The pair table of a table handed in: 2 before all else.
 unfoldable pub pairs_handed : RawTable → Res (List ℕ)

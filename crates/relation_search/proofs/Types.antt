@@ -18,7 +18,7 @@ use Rattle.table_record.specs.Store.{types_in, head_of, table_in, method_in}
 use Rattle.table_record.proofs.Lists.{from_first}
 use Rattle.table_record.proofs.Tables.{type-is}
 use Rattle.table_record.proofs.Codes.{number-rep, ref-rep}
-use Rattle.relation_found.specs.declared.Step.{Step}
+use Rattle.std.specs.Prelude.{Option}
 use Rattle.relation_found.specs.Found.{found, Listed, Grew, Broke, Met}
 use Rattle.relation_rule.specs.Parts.{outer_heads}
 use Rattle.relation_found.proofs.Pairs.{clash, stay, met-as}
@@ -81,7 +81,7 @@ module _ (b l : List ℕ) (c : Counts) (k : Relation) (a d : ℕ) (p : a < c.typ
         stay n W marks queue t h (rw (rule-is (found n marks), sym outer-is ∙ e, f, g))
 
     -- two references have their methods
-    pub types-methods : (marks' : List Bool) (queue' : List ℕ) (r : Step) → x.rep ≡ 0 → Met n Methods marks queue t marks' queue' r → Met n W marks queue t marks' queue' r
+    pub types-methods : (marks' : List Bool) (queue' : List ℕ) (r : Option ℕ) → x.rep ≡ 0 → Met n Methods marks queue t marks' queue' r → Met n W marks queue t marks' queue' r
     types-methods marks' queue' r z m = met-as n Methods W marks queue t marks' queue' r
         (λ M w. rw (all M) (all-each (method_rule k M) (denied-fits k M) c.methods (method_in b a) (method_in b d) w))
         (λ M w. each_all (method_rule k M) (denied-fits k M) c.methods (method_in b a) (method_in b d) (rw (all M) at w)) m

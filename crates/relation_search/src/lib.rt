@@ -3,18 +3,16 @@
 // can be reached, no heap, and never visits a pair twice.
 #![tactic(auto)]
 
-ghost use Rattle.std.specs.Prelude.{◌≡◌, ◌/◌, ◌%◌, ◌≤◌, ◌<◌, get_or};
+ghost use Rattle.std.specs.Prelude.{◌≡◌, ◌*◌, ◌/◌, ◌%◌, ◌≤◌, ◌<◌, get_or};
 ghost use Rattle.spec_model.specs.Relations.{method_rule, rule, related};
 ghost use Rattle.spec_model.specs.Table.{max_methods, max_types};
 ghost use Rattle.table_record.specs.Store.{table_in, method_in};
 ghost use Rattle.table_record.specs.Limits.{Checked};
 ghost use Rattle.relation_states.specs.Asked.{relation_of};
 ghost use Rattle.relation_states.specs.Squares.{Says};
-ghost use Rattle.relation_found.specs.Found.{queue_in, ListedIn, MetIn};
+ghost use Rattle.relation_found.specs.Found.{queue_in, ListedIn, MetIn, max_pairs};
 ghost use Rattle.relation_search.specs.Search.{each_below, Clear};
 
-use base_numbers::wide16;
-use relation_found::Step;
 use relation_states::Relation;
 use table_record::{Counts, Head, LINK_BYTES, TYPE_BYTES};
 
@@ -44,21 +42,16 @@ fn find_methods(
     square: &[[bool; 4]; 4],
     a: usize,
     d: usize,
-) -> Step
+) -> Option<usize>
     requires { ListedIn n found.old tail × Says (relation_of k) square.now × (a < max_types) × (d < max_types) × (methods ≤ max_methods) }
     ensures { MetIn n (λ M. each_below methods (λ j. method_rule (relation_of k) M (method_in b.now a j) (method_in b.now d j)))
         found.old tail found.new result }
 {
     let mut t = tail;
-    let mut j: usize = 0;
-    while j < methods {
-        let Step::Tail(r) = relation_found::find_method(b, found, t, n, k, square, a, d, j) else {
-            return Step::Broken;
-        };
-        t = r;
-        j += 1;
+    for j in 0..methods {
+        t = relation_found::find_method(b, found, t, n, k, square, a, d, j)?;
     }
-    Step::Tail(t)
+    Some(t)
 }
 
 // The rule of the pair (a, d).
@@ -72,19 +65,18 @@ fn find_types(
     square: &[[bool; 4]; 4],
     a: usize,
     d: usize,
-) -> Step
+) -> Option<usize>
     requires { ListedIn c.types found.old tail × Says (relation_of k) square.now × Checked l.now c × (a < c.types) × (d < c.types) }
     ensures { MetIn c.types (λ M. rule (relation_of k) (table_in b.now l.now c) M a d) found.old tail
         found.new result }
 {
     let x = table_record::get_head(b, a);
     let y = table_record::get_head(b, d);
-    let fine = relation_rule::outer_rule(l, c, k, x, y);
-    if !fine {
-        return Step::Broken;
+    if !relation_rule::outer_rule(l, c, k, x, y) {
+        return None;
     }
     if x.rep != Head::REF {
-        return Step::Tail(tail);
+        return Some(tail);
     }
     find_methods(b, found, tail, c.types, c.methods, k, square, a, d)
 }
@@ -99,14 +91,14 @@ fn find_next(
     c: Counts,
     k: Relation,
     square: &[[bool; 4]; 4],
-) -> Step
+) -> Option<usize>
     requires { ListedIn c.types found.old tail × Says (relation_of k) square.now × Checked l.now c × (head < tail) }
     ensures { MetIn c.types
         (λ M. rule (relation_of k) (table_in b.now l.now c) M (get_or (queue_in found.old) head 0 / max_types)
         (get_or (queue_in found.old) head 0 % max_types))
         found.old tail found.new result }
 {
-    let p = wide16(found[head]) % 32768;
+    let p = usize::from(found[head]) % 32768;
     find_types(
         b,
         l,
@@ -137,7 +129,7 @@ fn search_in(
     let mut tail = relation_found::add_pair(found, 0, t * Counts::TYPES + s);
     let mut head: usize = 0;
     while head < tail {
-        let Step::Tail(r) = find_next(b, l, found, tail, head, c, k, square) else {
+        let Some(r) = find_next(b, l, found, tail, head, c, k, square) else {
             return false;
         };
         tail = r;
@@ -146,9 +138,9 @@ fn search_in(
     true
 }
 
-// The same in an array for few types. Each array has a function of its own, which stays one, so that only one of them is on the stack at a time.
+// The same in an array of N entries. It stays a function of its own for each length, so that only one array is on the stack at a time.
 #[inline(never)]
-fn search_few(
+fn search_within<const N: usize>(
     b: &[u8; TYPE_BYTES],
     l: &[u8; LINK_BYTES],
     c: Counts,
@@ -157,65 +149,11 @@ fn search_few(
     t: usize,
     s: usize,
 ) -> bool
-    requires { Says (relation_of k) square.now × Checked l.now c × (t < c.types) × (s < c.types) × (c.types ≤ 16) }
+    requires { Says (relation_of k) square.now × Checked l.now c × (t < c.types) × (s < c.types) × (c.types * max_types ≤ N) × (N ≤ max_pairs) }
     ensures { result ≡ related (relation_of k) (table_in b.now l.now c) t s }
 {
-    let mut few = [0u16; FEW_PAIRS];
-    search_in(b, l, &mut few, c, k, square, t, s)
-}
-
-// In one for some types.
-#[inline(never)]
-fn search_some(
-    b: &[u8; TYPE_BYTES],
-    l: &[u8; LINK_BYTES],
-    c: Counts,
-    k: Relation,
-    square: &[[bool; 4]; 4],
-    t: usize,
-    s: usize,
-) -> bool
-    requires { Says (relation_of k) square.now × Checked l.now c × (t < c.types) × (s < c.types) × (c.types ≤ 64) }
-    ensures { result ≡ related (relation_of k) (table_in b.now l.now c) t s }
-{
-    let mut some = [0u16; SOME_PAIRS];
-    search_in(b, l, &mut some, c, k, square, t, s)
-}
-
-// In one for many types.
-#[inline(never)]
-fn search_many(
-    b: &[u8; TYPE_BYTES],
-    l: &[u8; LINK_BYTES],
-    c: Counts,
-    k: Relation,
-    square: &[[bool; 4]; 4],
-    t: usize,
-    s: usize,
-) -> bool
-    requires { Says (relation_of k) square.now × Checked l.now c × (t < c.types) × (s < c.types) × (c.types ≤ 80) }
-    ensures { result ≡ related (relation_of k) (table_in b.now l.now c) t s }
-{
-    let mut many = [0u16; MANY_PAIRS];
-    search_in(b, l, &mut many, c, k, square, t, s)
-}
-
-// In one for all types.
-#[inline(never)]
-fn search_all(
-    b: &[u8; TYPE_BYTES],
-    l: &[u8; LINK_BYTES],
-    c: Counts,
-    k: Relation,
-    square: &[[bool; 4]; 4],
-    t: usize,
-    s: usize,
-) -> bool
-    requires { Says (relation_of k) square.now × Checked l.now c × (t < c.types) × (s < c.types) }
-    ensures { result ≡ related (relation_of k) (table_in b.now l.now c) t s }
-{
-    let mut all = [0u16; PAIRS];
-    search_in(b, l, &mut all, c, k, square, t, s)
+    let mut found = [0u16; N];
+    search_in(b, l, &mut found, c, k, square, t, s)
 }
 
 // In an array that is long enough for the table and no longer than it need be: to clear a long one takes more than most searches do.
@@ -232,15 +170,15 @@ fn search(
     ensures { result ≡ related (relation_of k) (table_in b.now l.now c) t s }
 {
     if c.types <= FEW {
-        return search_few(b, l, c, k, square, t, s);
+        return search_within::<FEW_PAIRS>(b, l, c, k, square, t, s);
     }
     if c.types <= SOME {
-        return search_some(b, l, c, k, square, t, s);
+        return search_within::<SOME_PAIRS>(b, l, c, k, square, t, s);
     }
     if c.types <= MANY {
-        return search_many(b, l, c, k, square, t, s);
+        return search_within::<MANY_PAIRS>(b, l, c, k, square, t, s);
     }
-    search_all(b, l, c, k, square, t, s)
+    search_within::<PAIRS>(b, l, c, k, square, t, s)
 }
 
 // Whether S is a subtype of T, or, in the other relations, whether T is related from S.
@@ -255,10 +193,7 @@ pub fn related_at(
     requires { Checked l.now c }
     ensures { result ≡ related (relation_of k) (table_in b.now l.now c) t s }
 {
-    if c.types <= t {
-        return false;
-    }
-    if c.types <= s {
+    if c.types <= t || c.types <= s {
         return false;
     }
     let square = relation_states::state_square(k);

@@ -4,40 +4,31 @@ use Rattle.table_record.specs.Store.{table_in}
 use Rattle.table_record.proofs.Tables.{size_is}
 use Rattle.relation_compare.proofs.Laws.{compare-left, compare-right, compare-all}
 use Rattle.relation_compare.proofs.compare_checked.Goals as goal
+use Rattle.relation_compare.proofs.compare_checked.Goals.{then-c-x-via-then-c-x, then-c-x-via-else-c-x+then-c-y}
 
 pub returns-then-c-x : goal.returns-then-c-x
 returns-then-c-x c =
     let a = c.args in
-    let index_of = c.index_of-x in
-    let fits = c.ranges in
-    let if1 = c.if-c-x in
+    let T = table_in a.b.now a.l.now a.c in
     let e = size_is a.b.now a.l.now a.c in
-    compare-left (table_in a.b.now a.l.now a.c) a.t a.s index_of.result (rw e (rw (to_z-of_z fits.t) at index_of.ensures)) (rw e if1.true)
+    let x = c.index_of-x in
+    let y = c.index_of-y in
+    let ex = rw (to_z-of_z c.ranges.t) at x.ensures in
+    let ey = rw (to_z-of_z c.ranges.s) at y.ensures in
+    elim c.then-c-x.branch [
+      | then-c-x-via-then-c-x w ↦ compare-left T a.t a.s x.result (rw e ex) (rw e w.if-c-x.true)
+      | then-c-x-via-else-c-x+then-c-y w ↦ compare-right T a.t a.s x.result (rw e ex) (rw e w.if-c-x.false) y.result (rw e ey) (rw e w.if-c-y.true)
+    ]
 
-pub returns-then-c-y : goal.returns-then-c-y
-returns-then-c-y c =
-    let a = c.args in
-    let index_of = c.index_of-x in
-    let fits = c.ranges in
-    let if1 = c.if-c-x in
-    let index-of2 = c.index_of-y in
-    let if2 = c.if-c-y in
-    let e = size_is a.b.now a.l.now a.c in
-    compare-right (table_in a.b.now a.l.now a.c) a.t a.s index_of.result (rw e (rw (to_z-of_z fits.t) at index_of.ensures)) (rw e if1.false)
-    index-of2.result (rw e (rw (to_z-of_z fits.s) at index-of2.ensures)) (rw e if2.true)
-
-pub comparison_at-a-requires : goal.comparison_at-a-requires
-comparison_at-a-requires c = c.requires
+pub comparison_at-requires : goal.comparison_at-requires
+comparison_at-requires c = c.requires
 
 pub returns : goal.returns
 returns c =
     let a = c.args in
-    let index_of = c.index_of-x in
-    let fits = c.ranges in
-    let if1 = c.if-c-x in
-    let index-of2 = c.index_of-y in
-    let f = c.comparison_at-a in
-    let if2 = c.if-c-y in
+    let x = c.index_of-x in
+    let y = c.index_of-y in
+    let f = c.comparison_at in
     let e = size_is a.b.now a.l.now a.c in
-    compare-all (table_in a.b.now a.l.now a.c) a.t a.s index_of.result (rw e (rw (to_z-of_z fits.t) at index_of.ensures)) (rw e if1.false)
-    index-of2.result (rw e (rw (to_z-of_z fits.s) at index-of2.ensures)) (rw e if2.false) f.result f.ensures
+    compare-all (table_in a.b.now a.l.now a.c) a.t a.s x.result (rw e (rw (to_z-of_z c.ranges.t) at x.ensures)) (rw e c.if-c-x.false)
+    y.result (rw e (rw (to_z-of_z c.ranges.s) at y.ensures)) (rw e c.if-c-y.false) f.result f.ensures

@@ -11,30 +11,27 @@ use Rattle.spec_model.specs.Table.{max_sheet_types}
 use Rattle.relation_compare.proofs.pair_table.Goals as goal
 
 pub loop-p-init : goal.loop-p-init
-loop-p-init c = (omega arith, refl, λ k h. absurd (not-suc-le-zero h))
+loop-p-init c = (refl, λ k h. absurd (not-suc-le-zero h))
 
-pub pair_entry-e-requires : goal.pair_entry-e-requires
-pair_entry-e-requires c = c.requires
+pub pair_entry-requires : goal.pair_entry-requires
+pair_entry-requires c = c.requires
 
 pub bounds-out-p : goal.bounds-out-p
-bounds-out-p c = omega (arith, c.loop-p.invariant.1, c.loop-p-test.true)
+bounds-out-p c = omega (arith, c.loop-p.invariant.0)
 
 pub loop-p-preserved : goal.loop-p-preserved
 loop-p-preserved c =
     let a = c.args in
-    let loop-test = c.loop-p-test in
-    let pair-entry = c.pair_entry-e in
+    let pair-entry = c.pair_entry in
     let loop = c.loop-p in (
-      omega (arith, loop-test.true),
-      length-set loop.out loop.p pair-entry.result ∙ loop.invariant.1,
+      length-set loop.out loop.p pair-entry.result ∙ loop.invariant.0,
       set_next
           (λ k v. v ≡ pair_entry (table_in a.b.now a.l.now a.c) (k / max_sheet_types) (k % max_sheet_types)) loop.out loop.p pair-entry.result 0
-          (omega (arith, loop.invariant.1, loop-test.true)) loop.invariant.2 pair-entry.ensures,
+          (omega (arith, loop.invariant.0)) loop.invariant.1 pair-entry.ensures,
     )
 
 pub returns : goal.returns
 returns c =
     let a = c.args in
-    let loop-test = c.loop-p-test in
     let loop = c.loop-p in
-    pairs-all (table_in a.b.now a.l.now a.c) loop.out loop.invariant.1 (λ k h. loop.invariant.2 k (omega (arith, loop-test.false)))
+    pairs-all (table_in a.b.now a.l.now a.c) loop.out loop.invariant.0 (λ k h. loop.invariant.1 k (omega arith))

@@ -1,6 +1,5 @@
 -- Invariant: what is found passes the first j methods. One law for each way in which it returns.
 use mathlib.Core.Path.{◌≡◌}
-use Prim.Native.Nat.{◌-◌, ◌≤◌}
 use lib.ListN.{length}
 use Rattle.spec_model.specs.Relations.{method_rule}
 use Rattle.table_record.specs.Store.{method_in}
@@ -11,8 +10,5 @@ use Rattle.relation_search.proofs.find_methods.Given as goal
 
 abbrev pub invariant-loop-j : goal.invariant-loop-j
 invariant-loop-j l =
-    (l.j ≤ l.methods) × Grew l.n (λ M. each_below l.j (λ i. method_rule (relation_of l.k) M (method_in l.b l.a i) (method_in l.b l.d i))) (marks_in l.initial.found) (queue_in l.initial.found) l.tail (marks_in l.found) (queue_in l.found) l.t
+    Grew l.n (λ M. each_below l.j (λ i. method_rule (relation_of l.k) M (method_in l.b l.a i) (method_in l.b l.d i))) (marks_in l.initial.found) (queue_in l.initial.found) l.tail (marks_in l.found) (queue_in l.found) l.t
     × (length l.found ≡ length l.initial.found)
-
-abbrev pub decreases-loop-j : goal.decreases-loop-j
-decreases-loop-j l = l.methods - l.j

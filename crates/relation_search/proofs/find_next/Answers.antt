@@ -20,13 +20,11 @@ pub find_types-requires : goal.find_types-requires
 find_types-requires c =
     let a = c.args in
     let pre = c.requires in
-    let wide16 = c.wide16-p in
     let o = pre.0.back a.head pre.3 in
-    let e = queue-at a.found.now a.head wide16.result wide16.ensures.0 in
+    let e = queue-at a.found.now a.head c.from-p.result c.from-p.ensures in
     (pre.0, pre.1, pre.2, rw e at o.low, rw e at o.high)
 
 pub returns : goal.returns
 returns c =
     let a = c.args in
-    let wide16 = c.wide16-p in
-    rw (queue-at a.found.now a.head wide16.result wide16.ensures.0) c.find_types.ensures
+    rw (queue-at a.found.now a.head c.from-p.result c.from-p.ensures) c.find_types.ensures

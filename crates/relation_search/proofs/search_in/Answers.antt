@@ -65,8 +65,8 @@ loop-head-preserved c =
       e ∙ loop.invariant.0,
       again (relation_of a.k) (table_in a.b.now a.l.now a.c) a.c.types a.t a.s (size_is a.b.now a.l.now a.c) (marks_in loop.found)
           (queue_in loop.found) loop.tail loop.head loop.invariant.1
-          c.loop-head-test.true (marks_in next.new.found) (queue_in next.new.found) c.in-Tail.r
-          (rw c.in-Tail.is at next.ensures),
+          c.loop-head-test.true (marks_in next.new.found) (queue_in next.new.found) c.in-Some.r
+          (rw c.in-Some.is at next.ensures),
     )
 
 pub returns : goal.returns
