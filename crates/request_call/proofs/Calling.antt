@@ -7,6 +7,8 @@ use mathlib.Core.Option.{none}
 use Prim.Native.Nat.{ℕ, ◌+◌, ◌≤◌, ◌<◌}
 use native.Mathlib.Omega.{arith}
 use lib.Dec.{ltb}
+use Rattle.std.specs.Prelude.{Some, None, Ok, Err}
+use Rattle.std.specs.Prelude.{Option as Maybe, Result as Either}
 use lib.IntN.{ℤ}
 use lib.ListN.{length, get_or, get_or-append}
 use lib.Seq.{get_or_at}
@@ -28,23 +30,24 @@ use Rattle.table_record.proofs.Codes.{not-avail}
 use Rattle.base_numbers.specs.Index.{index_of}
 use Rattle.base_numbers.proofs.Laws.{index-unknown, index-known}
 use Rattle.state_record.specs.declared.Call.{Call}
-use Rattle.state_record.specs.declared.Calls.{Calls}
+use Rattle.state_record.specs.Counted.{Calls}
 use Rattle.state_record.specs.declared.Cell.{Cell}
 use Rattle.state_record.specs.Whole.{Whole as State}
 use Rattle.state_record.specs.View.{cell_of, call_of, cells_in, places_in, calls_in, call_added, system_in, with_types}
 use Rattle.state_record.specs.Sound.{CallIn, MayCall, Sound}
 use Rattle.state_record.proofs.Laws.{calls-length, system-is, means-counted}
 use Rattle.state_record.proofs.Kept.{few-added}
-use Rattle.request_common.specs.declared.Outcome.{Outcome}
-use Rattle.request_common.specs.declared.Outcome.TheVariants.{Pair}
-use Rattle.request_common.specs.Served.{Done as Served}
+use Rattle.base_numbers.specs.declared.refusal.Refusal.{Refusal}
+use Rattle.base_numbers.specs.Refusal.{number_of}
+use Rattle.request_common.specs.declared.Answer.TheVariants.{Pair}
+use Rattle.request_common.specs.Served.{Done as Served, refusal_of as refusal}
+use Rattle.request_common.specs.declared.Answer.{Answer}
 use Rattle.request_common.specs.Served.{outcome_of, served_with, served_as, Step}
 use Rattle.request_common.proofs.Laws.{refuses-kept, step-as, table_is, cells_are, places-are, calls_are, subject-at, held_at}
-use Rattle.request_value.specs.declared.Numbers.{Numbers}
-use Rattle.request_value.specs.declared.Numbers.TheVariants as numbers
+use Rattle.request_value.specs.declared.Met.{Met}
+use Rattle.request_value.specs.declared.Met.TheVariants.{Numbers, Reference}
 use Rattle.request_value.specs.Sent.{arguments_of, all_sent, Sent, Passes}
-use Rattle.request_common.specs.Back.{is_accepted}
-use Rattle.request_value.proofs.Sending.{went-counted, goes_on, only-refused, step_after}
+use Rattle.request_value.proofs.Sending.{went-counted, step_after}
 use Rattle.request_value.proofs.OtherCalls.{calls_left, calls-step}
 use Rattle.request_call.specs.Called.{new_call, call_through, call_held, Planned}
 use Rattle.request_call.specs.declared.Plan.{Plan}
@@ -57,10 +60,10 @@ module _ (s : State) (h : Sound s) (who : ℕ) (may : MayCall s who) (k m adapte
   call-byte = (omega (arith, cell, h.cell_count), omega (arith, method, h.checked.limits.methods))
 
   pub call-added : (c : Call) → call_of c ≡ new_call who k m → (calls : Calls) → calls ≡ call_added s.calls c → calls_in calls ≡ calls_in s.calls ++ (call_of c ∷ []) →
-      Step s (ok (with_call (system_in s) (new_call who k m), pair s.calls.count adapters)) (record { outcome = Pair s.calls.count adapters; state = calls_left s calls })
+      Step s (ok (with_call (system_in s) (new_call who k m), pair s.calls.count adapters)) (record { outcome = Ok (Pair s.calls.count adapters); state = calls_left s calls })
   call-added c is calls e are =
       step-as (ap (λ (x : List Callᵐ). ok (with_calls (system_in s) x, pair s.calls.count adapters)) (sym now-are))
-      (calls-step s h calls each few (Pair s.calls.count adapters) (pair s.calls.count adapters) refl refl)
+      (calls-step s h calls each few (Pair s.calls.count adapters))
     where
       one : calls.count ≡ s.calls.count + 1
       one = ap (λ (x : Calls). x.count) e
@@ -128,25 +131,20 @@ module _ (s : State) (who k m p : ℕ) (here : p ≡ (cell_at (system_in s) k).p
 
 -- ---- What is planned.
 module _ (s : State) (vs : List ℤ) where
-  pub planned-as : {m m' : Res (System × Result)} → m ≡ m' → (p : Plan) → Planned s vs m' p → Planned s vs m p
-  planned-as e p h = record { stops = λ z. e ∙ h.stops z; fits = h.fits; goes = λ z. e ∙ h.goes z; adds = λ z y. e ∙ h.adds z y }
+  pub planned-as : {m m' : Res (System × Result)} → m ≡ m' → (p : Either Plan Refusal) → Planned s vs m' p → Planned s vs m p
+  planned-as e (Ok p) h = record { fits = h.fits; goes = λ x z. e ∙ h.goes x z; adds = λ z. e ∙ h.adds z }
+  planned-as e (Err d) h = e ∙ h
 
-  pub planned-stops : {m : Res (System × Result)} (e : ℕ) → (e ≡ 0 → ⊥) → m ≡ refuse e → (p : Plan) → p.refusal ≡ e → Planned s vs m p
-  planned-stops e z w p u = record {
-    stops = λ y. w ∙ ap (λ (n : ℕ). refuse n) (sym u);
-    fits = λ y. absurd (z (sym u ∙ y));
-    goes = λ y. absurd (z (sym u ∙ y));
-    adds = λ y x. absurd (z (sym u ∙ y));
-  }
-
-  pub planned-refuses : {m : Res (System × Result)} (e : ℕ) → 0 < e → m ≡ refuse e → (p : Plan) → p.refusal ≡ e → Planned s vs m p
-  planned-refuses e low = planned-stops e (λ z. omega (arith, z, low))
-
-  pub planned-goes : (who k m adapters : ℕ) (x : Method) (sends : Bool) → MayCall s who × (who < 256) × (k < s.cells.count) × (m < s.counts.methods) →
-      (sends ≡ false → call_through (system_in s) who k m (arguments_of x) vs ≡ ok (with_call (system_in s) (new_call who k m), pair s.calls.count adapters)) →
+  pub planned-goes : (who k m adapters : ℕ) (x : Method) (sends : Maybe Method) → MayCall s who × (who < 256) × (k < s.cells.count) × (m < s.counts.methods) →
+      ((y : Method) → sends ≡ Some y → y ≡ x) →
+      (sends ≡ None → call_through (system_in s) who k m (arguments_of x) vs ≡ ok (with_call (system_in s) (new_call who k m), pair s.calls.count adapters)) →
       Planned s vs (call_through (system_in s) who k m (arguments_of x) vs)
-      (record { refusal = 0; sends = sends; who = who; cell = k; method = m; adapters = adapters; signature = x })
-  planned-goes who k m adapters x sends low e = record { stops = λ z. absurd (z refl); fits = λ z. low; goes = λ z. refl; adds = λ z y. e y }
+      (Ok (record { who = who; cell = k; method = m; adapters = adapters; sends = sends }))
+  planned-goes who k m adapters x sends low w e = record {
+    fits = low;
+    goes = λ y z. ap (λ (q : Method). call_through (system_in s) who k m (arguments_of q) vs) (sym (w y z));
+    adds = e;
+  }
 
 -- ---- Before the arguments: what their numbers come to.
 abbrev pub owner_at : State → ℕ → ℕ
@@ -154,17 +152,15 @@ owner_at s k = base_owner (system_in s).places (cell_at (system_in s) k).place
 
 module _ (s : State) (who k m : ℕ) (xs : List ℕ) (vs : List ℤ) (p : ℕ) (here : p ≡ (cell_at (system_in s) k).place)
     (ls : List ℕ) (met : ls ≡ (cell_at (system_in s) k).type ∷ layers_of (places_in s.places) p)
-    (q : Numbers) (passes : Passes (system_in s) (send_arguments (system_in s) (owner_at s k) ls m 0 xs vs) q) where
+    (q : Either Met Refusal) (passes : Passes (system_in s) (send_arguments (system_in s) (owner_at s k) ls m 0 xs vs) q) where
   before-is : (y : Res System) → send_arguments (system_in s) (owner_at s k) ls m 0 xs vs ≡ y → call_through (system_in s) who k m xs vs ≡ try y (Ends s who k m p here)
   before-is y w = ap (λ (u : List ℕ). try (send_arguments (system_in s) (owner_at s k) u m 0 xs vs) (Ends s who k m p here)) (call-layers-are s who k m p here ls met)
       ∙ ap (λ (u : Res System). try u (Ends s who k m p here)) w
 
-  pub numbers-refuse : (e : ℕ) → q ≡ numbers.Refused e → (r : Plan) → r.refusal ≡ e → Planned s vs (call_through (system_in s) who k m xs vs) r
-  numbers-refuse e z r u =
-      let w = subst (Passes (system_in s) (send_arguments (system_in s) (owner_at s k) ls m 0 xs vs)) z passes in
-      planned-stops s vs e w.1 (before-is (refuse e) w.0) r u
+  pub numbers-refuse : (e : Refusal) → q ≡ Err e → call_through (system_in s) who k m xs vs ≡ refuse (number_of e)
+  numbers-refuse e z = before-is (refuse (number_of e)) (subst (Passes (system_in s) (send_arguments (system_in s) (owner_at s k) ls m 0 xs vs)) z passes)
 
-  pub numbers-add : q ≡ numbers.Passed → (adapters : ℕ) → adapters ≡ adapter_count (places_in s.places) p →
+  pub numbers-add : q ≡ Ok Numbers → (adapters : ℕ) → adapters ≡ adapter_count (places_in s.places) p →
       call_through (system_in s) who k m xs vs ≡ ok (with_call (system_in s) (new_call who k m), pair s.calls.count adapters)
   numbers-add z adapters count = before-is (ok (system_in s)) (subst (Passes (system_in s) (send_arguments (system_in s) (owner_at s k) ls m 0 xs vs)) z passes)
       ∙ ends_is s who k m p here (system_in s) s.calls.count refl adapters count
@@ -189,10 +185,11 @@ module _ (s : State) (h : Sound s) (who k m : ℕ) (xs : List ℕ) (vs : List �
       through (refuse e) = refl
       through (ok x) = refl
 
-  pub through-stops : is_accepted q.outcome ≡ false → Step s (call_through (system_in s) who k m xs vs) (record { outcome = q.outcome; state = with_types s q.state.types })
-  through-stops z = only-refused (λ (y : Outcome). call_through (system_in s) who k m xs vs ≡ try (served_with (system_in q.state) (outcome_of y)) (λ x. Then x.0) →
-      Step s (call_through (system_in s) who k m xs vs) (record { outcome = y; state = with_types s q.state.types }))
-      (λ e u. refuses-kept h sent.sound.long sent.stored.kept u refl) q.outcome z through-is
+  through-by : (a : Either Answer Refusal) → q.outcome ≡ a → call_through (system_in s) who k m xs vs ≡ try (served_with (system_in q.state) (outcome_of a)) (λ x. Then x.0)
+  through-by a z = through-is ∙ ap (λ (y : Either Answer Refusal). try (served_with (system_in q.state) (outcome_of y)) (λ x. Then x.0)) z
+
+  pub through-stops : (e : Refusal) → q.outcome ≡ Err e → Step s (call_through (system_in s) who k m xs vs) (refusal (with_types s q.state.types) e)
+  through-stops e z = refuses-kept h sent.sound.long sent.stored.kept (through-by (Err e) z) refl
 
   pub through-room : MayCall s who → who < 256 → k < s.cells.count → m < s.counts.methods →
       Sound q.state × MayCall q.state who × (who < 256) × (k < q.state.cells.count) × (m < q.state.counts.methods)
@@ -204,10 +201,10 @@ module _ (s : State) (h : Sound s) (who k m : ℕ) (xs : List ℕ) (vs : List �
     subst (λ (c : Counts). m < c.methods) (sym sent.stored.counts) method,
   )
 
-  pub through-adds : is_accepted q.outcome ≡ true → (adapters : ℕ) → adapters ≡ adapter_count (places_in s.places) p → (r : Served) →
+  pub through-adds : (a : Answer) → q.outcome ≡ Ok a → (adapters : ℕ) → adapters ≡ adapter_count (places_in s.places) p → (r : Served) →
       Step q.state (ok (with_call (system_in q.state) (new_call who k m), pair q.state.calls.count adapters)) r → Step s (call_through (system_in s) who k m xs vs) r
-  through-adds z adapters count r g = step-as
-      (through-is ∙ goes_on q.outcome (system_in q.state) Then z ∙ ends_is s who k m p here (system_in q.state) q.state.calls.count (went-counted sent.went) adapters count)
+  through-adds a z adapters count r g = step-as
+      (through-by (Ok a) z ∙ ends_is s who k m p here (system_in q.state) q.state.calls.count (went-counted sent.went) adapters count)
       (step_after q.state sent.stored r g)
 
 -- ---- The tests that are left once the subject, its cell and the method are known.

@@ -1,5 +1,5 @@
 -- Methods of a cell's type, and the values of a call beside the arguments of a signature.
-use mathlib.Core.Path.{◌≡◌, sym, ap, ◌∙◌}
+use mathlib.Core.Path.{◌≡◌, refl, sym, ap, ◌∙◌}
 use mathlib.Core.Bool.{Bool, true, false, not, cond, ◌&&◌, ◌||◌}
 use mathlib.Core.List.{List, [], ◌∷◌}
 use Prim.Native.Nat.{ℕ, ◌≤◌, ◌<◌}
@@ -14,7 +14,10 @@ use Rattle.spec_model.specs.Table.{Table, Ty, no_method, type_at, method_at, is_
 use Rattle.spec_model.specs.Table.{Method as Methodᵐ}
 use Rattle.spec_model.specs.Check.{RawType, rep_of, method_of, no_raw_type, no_raw_method}
 use Rattle.spec_model.specs.Requests.{System, held, arguments_held}
-use Rattle.spec_model.specs.Records.{answer_code}
+use Rattle.spec_model.proofs.Rules.{never}
+use Rattle.std.specs.Prelude.{Some, None, is_some}
+use Rattle.std.specs.Prelude.{Option as Maybe}
+use Rattle.crossing_targets.specs.Targets.{option_of}
 use Rattle.table_record.specs.declared.Counts.{Counts}
 use Rattle.table_record.specs.declared.Head.{Head}
 use Rattle.table_record.specs.declared.Method.{Method}
@@ -86,11 +89,13 @@ module _ (s : System) (subject : ℤ) (xs : List ℕ) (vs : List ℤ) where
       pub held-lacks : (a : ℕ) (xs' : List ℕ) → drop i xs ≡ a ∷ xs' → false ≡ arguments_held s subject xs vs
       held-lacks a xs' z = sym (ap (λ (y : List ℕ). arguments_held s subject y []) z) ∙ left
 
--- all values are looked at: n codes the argument that would be next
-pub held_whole : (s : System) (subject : ℤ) (x : Method) (vs : List ℤ) (i : ℕ) → HeldRest s subject (arguments_of x) vs i → i ≤ length vs → length vs ≤ i → (n : ℕ) →
-    n ≡ answer_code (argument_of x (length vs)) → eqb n 0 ≡ arguments_held s subject (arguments_of x) vs
-held_whole s subject x vs i w h k n e = let z : length vs ≡ i = omega arith in go (ℕ_discrete n 0) (e ∙ ap (λ (j : ℕ). answer_code (argument_of x j)) z)
+-- all values are looked at: o is the argument that would be next
+pub held_whole : (s : System) (subject : ℤ) (x : Method) (vs : List ℤ) (i : ℕ) → HeldRest s subject (arguments_of x) vs i → length vs ≡ i → (o : Maybe ℕ) →
+    option_of o ≡ argument_of x (length vs) → (b : Bool) → is_some o ≡ not b → b ≡ arguments_held s subject (arguments_of x) vs
+held_whole s subject x vs i w e o r b q = go o b (r ∙ ap (argument_of x) e) q
   where
-    go : Dec (n ≡ 0) → n ≡ answer_code (argument_of x i) → eqb n 0 ≡ arguments_held s subject (arguments_of x) vs
-    go (yes q) y = eq-eqb n 0 q ∙ held-ends s subject (arguments_of x) vs i w k (none_left x i n y q)
-    go (no q) y = ne_eqb n 0 q ∙ held-lacks s subject (arguments_of x) vs i w k _ _ (some_left x i n y q)
+    go : (o : Maybe ℕ) (b : Bool) → option_of o ≡ argument_of x i → is_some o ≡ not b → b ≡ arguments_held s subject (arguments_of x) vs
+    go None true y z = held-ends s subject (arguments_of x) vs i w (omega arith) (none_left x i None y refl)
+    go None false y z = never z
+    go (Some a) true y z = never (sym z)
+    go (Some a) false y z = held-lacks s subject (arguments_of x) vs i w (omega arith) _ _ (some_left x i (Some a) y a refl)

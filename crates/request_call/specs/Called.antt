@@ -1,10 +1,14 @@
 -- The request call in the parts that the code has: the call once its operands are known, and what is left of it then.
-use Rattle.std.specs.Prelude.{◌≡◌, false, List, ℕ, ◌<◌, ltb, ℤ, length}
+use Rattle.std.specs.Prelude.{◌≡◌, false, Some, None, Ok, Err, List, ℕ, ◌<◌, ltb, ℤ, length}
+use Rattle.std.specs.Prelude.{Result as Either}
 use Rattle.spec_model.specs.Basics.{Res, refuse, ok, try, need, named}
 use Rattle.spec_model.specs.Table.{method_at, is_avail}
 use Rattle.spec_model.specs.Crossing.{base_owner}
 use Rattle.spec_model.specs.Requests.{Call, System, Result, pair, cell_at, arguments_held, send_arguments, call_layers, adapter_count, with_call, max_calls_each, made_by}
 use Rattle.spec_model.specs.Refusals.{not_callable, wrong_values, calls_full}
+use Rattle.base_numbers.specs.declared.refusal.Refusal.{Refusal}
+use Rattle.base_numbers.specs.Refusal.{number_of}
+use Rattle.table_record.specs.declared.Method.{Method}
 use Rattle.state_record.specs.Whole.{Whole as State}
 use Rattle.state_record.specs.View.{system_in}
 use Rattle.state_record.specs.Sound.{MayCall}
@@ -29,20 +33,20 @@ call_held s subject k m vs =
     need (ltb (made_by (named subject) s.calls) max_calls_each) calls_full λ _.
     call_through s (named subject) k m x.args vs
 
--- What a plan says of m, which is what the call comes to: its refusal; that the caller may make it, and its numbers name something; the call that is made where nothing
--- is sent.
-abbrev pub Stops : Res (System × Result) → Plan → Type 0
-Stops m p = (p.refusal ≡ 0 → ⊥) → m ≡ refuse p.refusal
-
+-- What a plan says of m, which is what the call comes to: that the caller may make it, and its numbers name something; the call that is made where nothing is sent.
 abbrev pub Fits : State → Plan → Type 0
 Fits s p = MayCall s p.who × (p.who < 256) × (p.cell < s.cells.count) × (p.method < s.counts.methods)
 
 abbrev pub Adds : State → Res (System × Result) → Plan → Type 0
-Adds s m p = p.refusal ≡ 0 → p.sends ≡ false → m ≡ ok (with_call (system_in s) (new_call p.who p.cell p.method), pair s.calls.count p.adapters)
+Adds s m p = p.sends ≡ None → m ≡ ok (with_call (system_in s) (new_call p.who p.cell p.method), pair s.calls.count p.adapters)
+
+pub record Goes (s : State) (vs : List ℤ) (m : Res (System × Result)) (p : Plan) : Type 0 where
+  pub fits : Fits s p
+  -- with the signature by which its arguments are sent, where one of them is a reference
+  pub goes : (x : Method) → p.sends ≡ Some x → m ≡ call_through (system_in s) p.who p.cell p.method (arguments_of x) vs
+  pub adds : Adds s m p
 
 -- What is known of a call before anything is sent, m being what it comes to: the refusal, or the call that is left; and all of it where no argument is a reference.
-pub record Planned (s : State) (vs : List ℤ) (m : Res (System × Result)) (p : Plan) : Type 0 where
-  pub stops : Stops m p
-  pub fits : p.refusal ≡ 0 → Fits s p
-  pub goes : p.refusal ≡ 0 → m ≡ call_through (system_in s) p.who p.cell p.method (arguments_of p.signature) vs
-  pub adds : Adds s m p
+abbrev pub Planned : State → List ℤ → Res (System × Result) → Either Plan Refusal → Type 0
+Planned s vs m (Ok p) = Goes s vs m p
+Planned s vs m (Err e) = m ≡ refuse (number_of e)

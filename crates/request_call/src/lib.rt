@@ -16,9 +16,10 @@ ghost use Rattle.request_common.specs.Served.{Step, done};
 ghost use Rattle.request_value.specs.Sent.{arguments_of};
 ghost use Rattle.request_call.specs.Called.{new_call, call_through, call_held, Planned};
 
-use base_numbers::{index_of, narrow, refusal, wide};
-use request_common::{Outcome, Served};
-use request_value::Numbers;
+use base_numbers::index_of;
+use base_numbers::refusal::Refusal;
+use request_common::Answer;
+use request_value::Met;
 use state_record::{Call, Calls, Cell, State};
 use table_record::{Counts, Head, Method, TYPE_BYTES};
 
@@ -35,206 +36,163 @@ fn method_at(types: &[u8; TYPE_BYTES], c: Counts, t: usize, m: usize) -> Method
 }
 
 // A value for type a of the signature: a reference is one that the subject holds (C5).
-fn argument_held(types: &[u8; TYPE_BYTES], s: State, who: usize, a: usize, v: i64) -> bool
-    requires { Sound (whole types.now s) }
+fn argument_held(types: &[u8; TYPE_BYTES], s: &State, who: usize, a: usize, v: i64) -> bool
+    requires { Sound (whole types.now s.now) }
     ensures { (subject : ℤ) → named subject ≡ who
-        → result ≡ not (is_ref (type_at (system_in (whole types.now s)).table a).rep) || held (system_in (whole types.now s)) subject v }
+        → result ≡ not (is_ref (type_at (system_in (whole types.now s.now)).table a).rep) || held (system_in (whole types.now s.now)) subject v }
 {
-    let c = s.counts;
-    let cs = s.cells;
-    if !table_record::names_ref(types, c.types, a) {
+    if !table_record::names_ref(types, s.counts.types, a) {
         return true;
     }
-    request_common::is_held(cs, who, v)
+    request_common::is_held(s.cells, who, v)
 }
 
 // As many values as the signature has arguments, and each reference held (C4, C5).
-fn arguments_held(types: &[u8; TYPE_BYTES], s: State, who: usize, x: Method, vs: &[i64]) -> bool
-    requires { Sound (whole types.now s) }
+fn arguments_held(types: &[u8; TYPE_BYTES], s: &State, who: usize, x: Method, vs: &[i64]) -> bool
+    requires { Sound (whole types.now s.now) }
     ensures { (subject : ℤ) → named subject ≡ who
-        → result ≡ arguments_held (system_in (whole types.now s)) subject (arguments_of x) vs.now }
+        → result ≡ arguments_held (system_in (whole types.now s.now)) subject (arguments_of x) vs.now }
 {
-    let n = vs.len();
-    let mut i: usize = 0;
-    while i < n {
-        let a = crossing_targets::argument_in(x, i);
-        if a == 0 {
+    for (i, v) in vs.iter().enumerate() {
+        let Some(a) = crossing_targets::argument_in(x, i) else {
+            return false;
+        };
+        if !argument_held(types, s, who, usize::from(a), *v) {
             return false;
         }
-        if !argument_held(types, s, who, a - 1, vs[i]) {
-            return false;
-        }
-        i += 1;
     }
-    crossing_targets::argument_in(x, n) == 0
+    crossing_targets::argument_in(x, vs.len()).is_none()
 }
 
 // How many of the calls are this subject's (C7).
-fn made_by(js: Calls, who: usize) -> usize
-    requires { js.count ≤ max_calls }
-    ensures { result ≡ made_by who (calls_in js) }
+fn made_by(js: &Calls, who: usize) -> usize
+    requires { js.now.count ≤ max_calls }
+    ensures { result ≡ made_by who (calls_in js.now) }
 {
-    let n = js.count;
-    let mut made: usize = 0;
-    let mut j: usize = 0;
-    while j < n {
-        if wide(js.list[j].caller) == who {
+    let mut made = 0;
+    for j in 0..js.count {
+        if usize::from(js.list[j].caller) == who {
             made += 1;
         }
-        j += 1;
     }
     made
 }
 
 // One more call (C18), and its answer (C19).
-pub fn add_call(s: State, who: usize, k: usize, m: usize, adapters: usize) -> Served
-    requires { (s.calls.count < max_calls) × (who < 256) × (k < 256) × (m < 256) }
-    ensures { (b : List ℕ) → Sound (whole b s) → MayCall (whole b s) who → k < s.cells.count → m < s.counts.methods
-        → Step (whole b s) (ok (with_call (system_in (whole b s)) (new_call who k m), pair s.calls.count adapters)) (done b result) }
+pub fn add_call(s: &mut State, who: usize, k: usize, m: usize, adapters: usize) -> Answer
+    requires { (s.old.calls.count < max_calls) × (who < 256) × (k < 256) × (m < 256) }
+    ensures { (b : List ℕ) → Sound (whole b s.old) → MayCall (whole b s.old) who → k < s.old.cells.count → m < s.old.counts.methods
+        → Step (whole b s.old) (ok (with_call (system_in (whole b s.old)) (new_call who k m), pair s.old.calls.count adapters)) (done b s.new (Ok result)) }
 {
     let first = s.calls.count;
     let c = Call {
-        caller: narrow(who),
-        cell: narrow(k),
-        method: narrow(m),
+        caller: who as u8,
+        cell: k as u8,
+        method: m as u8,
         answered: false,
     };
-    let calls = s.calls.add(c);
-    let state = s.with_calls(calls);
-    Served {
-        outcome: Outcome::Pair {
-            first,
-            second: adapters,
-        },
-        state,
+    s.calls = s.calls.add(c);
+    Answer::Pair {
+        first,
+        second: adapters,
     }
 }
 
-// The call of method m, whose signature is x, through cell k (C9, C12, C18, C19).
+// The call of method m, whose signature is x, through cell k (C9, C12, C18, C19). The arguments are sent on a copy: a refusal leaves the state as it was (C20).
 fn call_through(
     types: &mut [u8; TYPE_BYTES],
-    s: State,
+    s: &mut State,
     who: usize,
     k: usize,
     m: usize,
     x: Method,
     vs: &[i64],
-) -> Served
-    requires { Sound (whole types.old s) × MayCall (whole types.old s) who × (who < 256) × (k < s.cells.count) × (m < s.counts.methods) }
-    ensures { Step (whole types.old s) (call_through (system_in (whole types.old s)) who k m (arguments_of x) vs.now)
-        (done types.new result) }
+) -> Result<Answer, Refusal>
+    requires { Sound (whole types.old s.old) × MayCall (whole types.old s.old) who × (who < 256) × (k < s.old.cells.count) × (m < s.old.counts.methods) }
+    ensures { Step (whole types.old s.old) (call_through (system_in (whole types.old s.old)) who k m (arguments_of x) vs.now)
+        (done types.new s.new result) }
 {
-    let c = state_record::cell_at(s.cells, k);
-    let p = wide(c.place);
-    let ps = s.places;
-    let owner = state_places::base_owner(ps, p);
-    let layers = state_places::layers_of(ps, p);
-    let q = request_value::send_arguments(
-        types,
-        s,
-        owner,
-        crossing_targets::call_layers(c.ty, layers),
-        m,
-        x,
-        vs,
-    );
-    let outcome = q.outcome;
-    let sent = q.state;
-    if !request_common::accepted(outcome) {
-        return Served { outcome, state: s };
-    }
-    add_call(sent, who, k, m, state_places::adapters_of(ps, p))
+    let c = s.cells.at(k);
+    let p = usize::from(c.place);
+    let owner = state_places::base_owner(s.places, p);
+    let layers = state_places::layers_of(s.places, p);
+    let adapters = state_places::adapters_of(s.places, p);
+    let ls = crossing_targets::call_layers(c.ty, layers);
+    let mut sent = *s;
+    request_value::send_arguments(types, &mut sent, owner, ls, m, x, vs)?;
+    let answer = add_call(&mut sent, who, k, m, adapters);
+    *s = sent;
+    Ok(answer)
 }
 
-// What a call comes to before anything is sent: the number of its refusal, or 0 and the call that it is, with its signature. Where `sends` is false no argument
-// is a reference: all have passed, and what is left is to add the call.
+// A call that has passed all tests of its operands, before anything is sent: the call that it is and its adapters; and its signature where a reference is among
+// the arguments. Where there is none all arguments have passed, and what is left is to add the call.
 #[derive(Clone, Copy)]
 pub struct Plan {
-    pub refusal: usize,
-    pub sends: bool,
     pub who: usize,
     pub cell: usize,
     pub method: usize,
     pub adapters: usize,
-    pub signature: Method,
-}
-
-fn stops(number: usize) -> Plan
-    ensures { result.refusal ≡ number }
-{
-    Plan {
-        refusal: number,
-        sends: false,
-        who: 0,
-        cell: 0,
-        method: 0,
-        adapters: 0,
-        signature: Method::empty(),
-    }
+    pub sends: Option<Method>,
 }
 
 // The numbers among the arguments of a call of method m, whose signature is x, through cell k, which is c (C9, C14).
 fn plan_numbers(
     types: &[u8; TYPE_BYTES],
-    s: State,
+    s: &State,
     who: usize,
     k: usize,
     c: Cell,
     m: usize,
     x: Method,
     vs: &[i64],
-) -> Plan
-    requires { Sound (whole types.now s) × MayCall (whole types.now s) who × (who < 256) × (k < s.cells.count) × (m < s.counts.methods)
-        × (cell_of c ≡ get_or (cells_in s.cells) k no_cell) }
-    ensures { Planned (whole types.now s) vs.now
-        (call_through (system_in (whole types.now s)) who k m (arguments_of x) vs.now) result }
+) -> Result<Plan, Refusal>
+    requires { Sound (whole types.now s.now) × MayCall (whole types.now s.now) who × (who < 256) × (k < s.now.cells.count) × (m < s.now.counts.methods)
+        × (cell_of c ≡ get_or (cells_in s.now.cells) k no_cell) }
+    ensures { Planned (whole types.now s.now) vs.now
+        (call_through (system_in (whole types.now s.now)) who k m (arguments_of x) vs.now) result }
 {
-    let counts = s.counts;
-    let ps = s.places;
-    let layers = state_places::layers_of(ps, wide(c.place));
+    let layers = state_places::layers_of(s.places, usize::from(c.place));
     let ls = crossing_targets::call_layers(c.ty, layers);
-    let adapters = layers.count - 1;
-    let passed = request_value::pass_numbers(types, counts, ls, m, x, vs);
-    match passed {
-        Numbers::Refused(e) => stops(e),
-        Numbers::Passed => Plan {
-            refusal: 0,
-            sends: false,
-            who,
-            cell: k,
-            method: m,
-            adapters,
-            signature: x,
-        },
-        Numbers::Reference => Plan {
-            refusal: 0,
-            sends: true,
-            who,
-            cell: k,
-            method: m,
-            adapters,
-            signature: x,
-        },
+    let numbers = Plan {
+        who,
+        cell: k,
+        method: m,
+        adapters: layers.count - 1,
+        sends: None,
+    };
+    match request_value::pass_numbers(types, s.counts, ls, m, x, vs)? {
+        Met::Numbers => Ok(numbers),
+        Met::Reference => Ok(Plan {
+            sends: Some(x),
+            ..numbers
+        }),
     }
 }
 
 // The tests that are left once the subject, its cell and the method are known (C3, C4, C5, C7).
-fn plan_held(types: &[u8; TYPE_BYTES], s: State, who: usize, k: usize, m: usize, vs: &[i64]) -> Plan
-    requires { Sound (whole types.now s) × (who < s.counts.subjects) × (k < s.cells.count) × (m < s.counts.methods) }
+fn plan_held(
+    types: &[u8; TYPE_BYTES],
+    s: &State,
+    who: usize,
+    k: usize,
+    m: usize,
+    vs: &[i64],
+) -> Result<Plan, Refusal>
+    requires { Sound (whole types.now s.now) × (who < s.now.counts.subjects) × (k < s.now.cells.count) × (m < s.now.counts.methods) }
     ensures { (subject : ℤ) → named subject ≡ who
-        → Planned (whole types.now s) vs.now (call_held (system_in (whole types.now s)) subject k m vs.now) result }
+        → Planned (whole types.now s.now) vs.now (call_held (system_in (whole types.now s.now)) subject k m vs.now) result }
 {
-    let c = state_record::cell_at(s.cells, k);
-    let counts = s.counts;
-    let x = method_at(types, counts, wide(c.ty), m);
+    let c = s.cells.at(k);
+    let x = method_at(types, s.counts, usize::from(c.ty), m);
     if x.state != Method::AVAIL {
-        return stops(refusal::NOT_CALLABLE);
+        return Err(Refusal::NotCallable);
     }
     if !arguments_held(types, s, who, x, vs) {
-        return stops(refusal::WRONG_VALUES);
+        return Err(Refusal::WrongValues);
     }
-    if State::CALLS_EACH <= made_by(s.calls, who) {
-        return stops(refusal::CALLS_FULL);
+    if State::CALLS_EACH <= made_by(&s.calls, who) {
+        return Err(Refusal::CallsFull);
     }
     plan_numbers(types, s, who, k, c, m, x, vs)
 }
@@ -242,29 +200,28 @@ fn plan_held(types: &[u8; TYPE_BYTES], s: State, who: usize, k: usize, m: usize,
 // All that is known of a call by the types as they are (C1 to C5, C7), so that who has to give them back on a refusal saves them only where something is sent.
 pub fn plan_call(
     types: &[u8; TYPE_BYTES],
-    s: State,
+    s: &State,
     subject: i64,
     cell: i64,
     method: i64,
     arguments: &[i64],
-) -> Plan
-    requires { Sound (whole types.now s) }
-    ensures { Planned (whole types.now s) arguments.now
-        (call_request (system_in (whole types.now s)) subject cell method arguments.now) result }
+) -> Result<Plan, Refusal>
+    requires { Sound (whole types.now s.now) }
+    ensures { Planned (whole types.now s.now) arguments.now
+        (call_request (system_in (whole types.now s.now)) subject cell method arguments.now) result }
 {
     let counts = s.counts;
-    let cells = s.cells;
     if !request_common::is_subject(counts, subject) {
-        return stops(refusal::UNKNOWN_SUBJECT);
+        return Err(Refusal::UnknownSubject);
     }
     let who = index_of(subject, counts.subjects);
-    if !request_common::is_held(cells, who, cell) {
-        return stops(refusal::NOT_HELD);
+    if !request_common::is_held(s.cells, who, cell) {
+        return Err(Refusal::NotHeld);
     }
-    let k = index_of(cell, cells.count);
+    let k = index_of(cell, s.cells.count);
     let m = index_of(method, counts.methods);
     if counts.methods <= m {
-        return stops(refusal::NOT_CALLABLE);
+        return Err(Refusal::NotCallable);
     }
     plan_held(types, s, who, k, m, arguments)
 }
@@ -272,23 +229,19 @@ pub fn plan_call(
 // Call (C).
 pub fn call_step(
     types: &mut [u8; TYPE_BYTES],
-    s: State,
+    s: &mut State,
     subject: i64,
     cell: i64,
     method: i64,
     arguments: &[i64],
-) -> Served
-    requires { Sound (whole types.old s) }
-    ensures { Step (whole types.old s)
-        (call_request (system_in (whole types.old s)) subject cell method arguments.now) (done types.new result) }
+) -> Result<Answer, Refusal>
+    requires { Sound (whole types.old s.old) }
+    ensures { Step (whole types.old s.old)
+        (call_request (system_in (whole types.old s.old)) subject cell method arguments.now) (done types.new s.new result) }
 {
-    let p = plan_call(types, s, subject, cell, method, arguments);
-    if p.refusal != 0 {
-        return request_common::refused(s, p.refusal);
+    let p = plan_call(types, s, subject, cell, method, arguments)?;
+    match p.sends {
+        Some(x) => call_through(types, s, p.who, p.cell, p.method, x, arguments),
+        None => Ok(add_call(s, p.who, p.cell, p.method, p.adapters)),
     }
-    if p.sends {
-        let x = p.signature;
-        return call_through(types, s, p.who, p.cell, p.method, x, arguments);
-    }
-    add_call(s, p.who, p.cell, p.method, p.adapters)
 }

@@ -17,7 +17,7 @@ use Rattle.spec_model.specs.Requests.{Cell as Cellᵐ}
 use Rattle.spec_model.specs.Refusals.{unknown_subject, not_held, unknown_type, places_full}
 use Rattle.table_record.specs.Store.{table_in}
 use Rattle.state_record.specs.declared.Cell.{Cell}
-use Rattle.state_record.specs.declared.Places.{Places}
+use Rattle.state_record.specs.Counted.{Places}
 use Rattle.state_record.specs.declared.Place.TheVariants.{Object}
 use Rattle.state_record.specs.Whole.{Whole as State}
 use Rattle.state_record.specs.View.{cell_of, cells_in, places_in, place_added, system_in}
@@ -25,28 +25,32 @@ use Rattle.state_record.specs.Sound.{Descending, Sound}
 use Rattle.state_record.proofs.Laws.{places-length, system-is, means-counted}
 use Rattle.state_record.proofs.Kept.{descending-more, typed-more}
 use Rattle.crossing_meet.specs.declared.Crossed.{Crossed}
-use Rattle.crossing_meet.specs.Crossed.{reference, crossed_of, Leaves}
-use Rattle.crossing_meet.proofs.Laws.{refused-is, came-is}
+use Rattle.crossing_meet.specs.Crossed.{reference, crossed_of, Came, Leaves}
+use Rattle.std.specs.Prelude.{Ok, Err}
+use Rattle.std.specs.Prelude.{Result as Either}
+use Rattle.std.proofs.lemmas.Result.{IfOk-at_ok}
+use Rattle.base_numbers.specs.declared.refusal.Refusal.{Refusal}
+use Rattle.base_numbers.specs.Refusal.{number_of}
 use Rattle.crossing_one.specs.declared.Crossing.{Crossing}
 use Rattle.crossing_one.specs.Crosses.{crossing}
 use Rattle.request_common.specs.Served.{is_sheet_class, arrived, Arrives}
 use Rattle.request_new_move.specs.Sent.{sent_to, Sends, Made}
 
--- ---- The way that both go: y came of the crossing.
-module _ (s : State) (ps : Places) (x : Crossing) (h : Sends s ps x) (types : List ℕ) (y : Crossed)
-    (is : crossed_of types s.links s.counts y ≡ crossing (table_in s.types s.links s.counts) ps x) (left : Leaves s.counts ps x.from s.types types y) where
+-- ---- The way that both go: r came of the crossing.
+module _ (s : State) (ps : Places) (x : Crossing) (h : Sends s ps x) (types : List ℕ) (r : Either Crossed Refusal)
+    (is : crossed_of types s.links s.counts r ≡ crossing (table_in s.types s.links s.counts) ps x) (left : Leaves s.counts ps x.from s.types types r) where
   abbrev Adds : Res Reference → Res (System × Result)
   Adds z = try z (λ f. add_cell (system_in s) x.receiver f)
 
-  pub sent-refused : (y.refusal ≡ 0 → ⊥) → sent_to s ps x ≡ refuse y.refusal
-  sent-refused e = ap Adds (sym is ∙ refused-is types s.links s.counts y e)
+  pub sent-refused : (e : Refusal) → r ≡ Err e → sent_to s ps x ≡ refuse (number_of e)
+  sent-refused e z = ap Adds (sym is ∙ ap (crossed_of types s.links s.counts) z)
 
-  module _ (e : y.refusal ≡ 0) where
+  module _ (y : Crossed) (e : r ≡ Ok y) where
     pub sent-lands : sent_to s ps x ≡ add_cell (system_in s) x.receiver (arrived s types y.types y.places y.ty y.place)
-    sent-lands = ap Adds (sym is ∙ came-is types s.links s.counts y e)
+    sent-lands = ap Adds (sym is ∙ ap (crossed_of types s.links s.counts) e)
 
     pub sent-arrives : Arrives s types y.types y.places y.ty y.place
-    sent-arrives = let m = left.came e in record {
+    sent-arrives = let m = IfOk-at_ok (λ (z : Crossed). Came s.counts ps x.from types z) e left.came in record {
       sound = h.sound;
       long = left.long;
       grew = m.types;

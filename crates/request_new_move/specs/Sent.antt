@@ -5,7 +5,7 @@ use Rattle.spec_model.specs.Crossing.{object}
 use Rattle.spec_model.specs.Requests.{System, Result, add_cell}
 use Rattle.table_record.specs.declared.Counts.{Counts}
 use Rattle.table_record.specs.Store.{table_in}
-use Rattle.state_record.specs.declared.Places.{Places}
+use Rattle.state_record.specs.Counted.{Places}
 use Rattle.state_record.specs.Whole.{Whole as State}
 use Rattle.state_record.specs.View.{places_in, system_in}
 use Rattle.state_record.specs.Sound.{Descending, Typed, Sound}

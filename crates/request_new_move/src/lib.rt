@@ -12,24 +12,25 @@ ghost use Rattle.state_record.specs.Sound.{Descending, Sound};
 ghost use Rattle.request_common.specs.Served.{Step, done};
 ghost use Rattle.request_new_move.specs.Sent.{sent_to, Sends, Made};
 
-use base_numbers::{index_of, narrow, refusal, wide};
+use base_numbers::index_of;
+use base_numbers::refusal::Refusal;
 use crossing_one::Crossing;
-use request_common::Served;
+use request_common::Answer;
 use state_record::{Place, PlaceRec, Places, State};
 use table_record::TYPE_BYTES;
 
 // What crosses to a place of `ps` becomes a cell of its receiver (N6 to N8, M4 to M6).
-fn send(types: &mut [u8; TYPE_BYTES], s: State, ps: Places, x: Crossing) -> Served
-    requires { Sends (whole types.old s) ps x }
-    ensures { Step (whole types.old s) (sent_to (whole types.old s) ps x) (done types.new result) }
+fn send(
+    types: &mut [u8; TYPE_BYTES],
+    s: &mut State,
+    ps: Places,
+    x: Crossing,
+) -> Result<Answer, Refusal>
+    requires { Sends (whole types.old s.old) ps x }
+    ensures { Step (whole types.old s.old) (sent_to (whole types.old s.old) ps x) (done types.new s.new result) }
 {
-    let links = s.links;
-    let y = crossing_one::cross(types, &links, s.counts, ps, x);
-    if y.refusal != 0 {
-        return request_common::refused(s, y.refusal);
-    }
-    let places = y.places;
-    request_common::add_cell(s, y.types, places, x.receiver, y.ty, y.place)
+    let y = crossing_one::cross(types, &s.links, s.counts, ps, x)?;
+    request_common::add_cell(s, y.types, y.places, x.receiver, y.ty, y.place)
 }
 
 // An object of the class, owned by the subject, is the next place (N5).
@@ -38,31 +39,37 @@ fn make(ps: Places, class: usize, owner: usize) -> Places
     ensures { Made ps class owner result }
 {
     let place = Place::Object {
-        class: narrow(class),
-        owner: narrow(owner),
+        class: class as u8,
+        owner: owner as u8,
     };
     ps.add(PlaceRec { place })
 }
 
 // New (N): an object of a sheet class, and a cell of the subject that refers to it.
-pub fn new_step(types: &mut [u8; TYPE_BYTES], s: State, subject: i64, class: i64, to: i64) -> Served
-    requires { Sound (whole types.old s) }
-    ensures { Step (whole types.old s) (new_request (system_in (whole types.old s)) subject class to)
-        (done types.new result) }
+pub fn new_step(
+    types: &mut [u8; TYPE_BYTES],
+    s: &mut State,
+    subject: i64,
+    class: i64,
+    to: i64,
+) -> Result<Answer, Refusal>
+    requires { Sound (whole types.old s.old) }
+    ensures { Step (whole types.old s.old) (new_request (system_in (whole types.old s.old)) subject class to)
+        (done types.new s.new result) }
 {
     let c = s.counts;
     if !request_common::is_subject(c, subject) {
-        return request_common::refused(s, refusal::UNKNOWN_SUBJECT);
+        return Err(Refusal::UnknownSubject);
     }
     if !request_common::is_sheet_class(types, c, class) {
-        return request_common::refused(s, refusal::UNKNOWN_TYPE);
+        return Err(Refusal::UnknownType);
     }
     if !request_common::is_sheet_ref(types, c, to) {
-        return request_common::refused(s, refusal::UNKNOWN_TYPE);
+        return Err(Refusal::UnknownType);
     }
     let ps = s.places;
     if State::PLACES <= ps.count {
-        return request_common::refused(s, refusal::PLACES_FULL);
+        return Err(Refusal::PlacesFull);
     }
     let owner = index_of(subject, c.subjects);
     let ty = index_of(class, c.sheet);
@@ -80,40 +87,39 @@ pub fn new_step(types: &mut [u8; TYPE_BYTES], s: State, subject: i64, class: i64
 // Move (M): the reference in the cell crosses and becomes a cell of the receiver; the cell that is moved stays (M6).
 pub fn move_step(
     types: &mut [u8; TYPE_BYTES],
-    s: State,
+    s: &mut State,
     subject: i64,
     cell: i64,
     receiver: i64,
     to: i64,
-) -> Served
-    requires { Sound (whole types.old s) }
-    ensures { Step (whole types.old s) (move_request (system_in (whole types.old s)) subject cell receiver to)
-        (done types.new result) }
+) -> Result<Answer, Refusal>
+    requires { Sound (whole types.old s.old) }
+    ensures { Step (whole types.old s.old) (move_request (system_in (whole types.old s.old)) subject cell receiver to)
+        (done types.new s.new result) }
 {
     let c = s.counts;
     if !request_common::is_subject(c, subject) {
-        return request_common::refused(s, refusal::UNKNOWN_SUBJECT);
+        return Err(Refusal::UnknownSubject);
     }
     if !request_common::is_subject(c, receiver) {
-        return request_common::refused(s, refusal::UNKNOWN_SUBJECT);
+        return Err(Refusal::UnknownSubject);
     }
-    let cells = s.cells;
     let who = index_of(subject, c.subjects);
-    if !request_common::is_held(cells, who, cell) {
-        return request_common::refused(s, refusal::NOT_HELD);
+    if !request_common::is_held(s.cells, who, cell) {
+        return Err(Refusal::NotHeld);
     }
     if !request_common::is_sheet_ref(types, c, to) {
-        return request_common::refused(s, refusal::UNKNOWN_TYPE);
+        return Err(Refusal::UnknownType);
     }
     let r = index_of(receiver, c.subjects);
     let target = index_of(to, c.sheet);
-    let moved = state_record::cell_at(cells, index_of(cell, cells.count));
-    let ps = s.places;
+    let moved = s.cells.at(index_of(cell, s.cells.count));
     let x = Crossing {
-        from: wide(moved.ty),
-        place: wide(moved.place),
+        from: usize::from(moved.ty),
+        place: usize::from(moved.place),
         to: target,
         receiver: r,
     };
+    let ps = s.places;
     send(types, s, ps, x)
 }

@@ -1,5 +1,5 @@
 -- Words: the request that begins at one, and answers as words.
-use mathlib.Core.Path.{◌≡◌, refl, sym, ap, subst, ◌∙◌}
+use mathlib.Core.Path.{◌≡◌, refl, sym, ap, ◌∙◌}
 use mathlib.Core.Bool.{Bool, true, false, cond}
 use mathlib.Core.List.{List, [], ◌∷◌, ◌++◌}
 use mathlib.Core.Option.{Option, none}
@@ -7,17 +7,14 @@ use Prim.Native.Nat.{ℕ, zero, suc, ◌+◌, ◌-◌, ◌≤◌, ◌<◌}
 use native.Mathlib.Omega.{arith}
 use lib.Dec.{ltb}
 use lib.IntN.{ℤ, pos, negsuc}
-use lib.ListN.{length, get_or, set, take, drop, drop_of_length-le, length-drop, length-set}
+use lib.ListN.{length, get_or, take, drop, drop_of_length-le, length-drop}
 use lib.Seq.{drop-cons, sets, get_or-drop, drop-drop}
 use borrow.Author.Tests.{lt-ltb, le-ltb}
 use Rattle.spec_model.specs.Basics.{names, named}
 use Rattle.spec_model.specs.Requests.{Request, pair, number, nothing, Outcome as Outcomeᵐ, got, refused}
 use Rattle.base_numbers.specs.Index.{index_of}
-use Rattle.request_common.specs.declared.Outcome.{Outcome}
-use Rattle.request_common.specs.declared.Outcome.TheVariants.{Refused, Pair, Number, Nothing}
-use Rattle.request_common.specs.Outcome.{outcome_of}
 use Rattle.request_words.specs.Words.{request, requests, outcome_size, words_of}
-use Rattle.request_words.specs.Found.{SmallOutcome, left_at, count_at, asked_at, next_at}
+use Rattle.request_words.specs.Found.{left_at, count_at, asked_at, next_at}
 
 -- ---- The request in front of a list.
 abbrev front_count : List ℤ → ℕ
@@ -75,70 +72,15 @@ module _ (ws : List ℤ) (at : ℕ) (h : at < length ws) where
           rw (a, b)
       go false e = ap (λ (xs : List (Option Request)). none ∷ xs) (sym (nothing_left ws f))
 
-  pub count_none : left_at ws at ≡ 0 → 0 ≡ count_at ws at
-  count_none e = sym (ap (index_of (get_or ws (at + 1) (pos 0))) e ∙ go (get_or ws (at + 1) (pos 0))) where
-    go : (z : ℤ) → index_of z 0 ≡ 0
-    go (pos k) = rw (le-ltb k 0 (omega arith))
-    go (negsuc k) = refl
+  pub asked-none : left_at ws at ≤ count_at ws at → asked_at ws at ≡ none
+  asked-none l = rw (le-ltb (count_at ws at) (left_at ws at) l)
 
-  module _ (n : ℕ) (e : n ≡ count_at ws at) where
-    pub asked-none : left_at ws at ≤ n → asked_at ws at ≡ none
-    asked-none l = let k : left_at ws at ≤ count_at ws at = subst (λ (m : ℕ). left_at ws at ≤ m) e l in rw (le-ltb (count_at ws at) (left_at ws at) k)
+  pub asked_is : count_at ws at < left_at ws at → (code : ℤ) → code ≡ get_or ws at (pos 0) → (ops : List ℤ) → ops ≡ take (count_at ws at) (drop (at + 2) ws)
+      → request code ops ≡ asked_at ws at
+  asked_is l code d ops e = ap (λ (z : ℤ). request z ops) d ∙ ap (request (get_or ws at (pos 0))) e ∙ sym (rw (lt-ltb (count_at ws at) (left_at ws at) l))
 
-    pub next-none : left_at ws at ≤ n → length ws ≡ next_at ws at
-    next-none l = let k : left_at ws at ≤ count_at ws at = subst (λ (m : ℕ). left_at ws at ≤ m) e l in rw (le-ltb (count_at ws at) (left_at ws at) k)
-
-    pub next-is : n < left_at ws at → at + 2 + n ≡ next_at ws at
-    next-is l = let k : count_at ws at < left_at ws at = subst (λ (m : ℕ). m < left_at ws at) e l in ap (λ (m : ℕ). at + 2 + m) e ∙ rw (lt-ltb (count_at ws at) (left_at ws at) k)
-
-    -- the operands are the part of the list from `first` to `end`
-    pub asked_is : n < left_at ws at → (code : ℤ) → code ≡ get_or ws at (pos 0) → (first m : ℕ) → first ≡ at + 2 → m ≡ n → request code (take m (drop first ws)) ≡ asked_at ws at
-    asked_is l code d first m f g =
-        let k : count_at ws at < left_at ws at = subst (λ (m : ℕ). m < left_at ws at) e l in
-        let h' : m ≡ count_at ws at = g ∙ e in
-        ap (λ (z : ℤ). request z (take m (drop first ws))) d ∙ ap (λ (a : ℕ). request (get_or ws at (pos 0)) (take m (drop a ws))) f
-        ∙ ap (λ (a : ℕ). request (get_or ws at (pos 0)) (take a (drop (at + 2) ws))) h' ∙ sym (rw (lt-ltb (count_at ws at) (left_at ws at) k))
-
--- ---- Answers.
-pub four : (l : List ℤ) (i : ℕ) (a b c d : ℤ) → set (set (set (set l i a) (i + 1) b) (i + 2) c) (i + 3) d ≡ sets l i (a ∷ b ∷ c ∷ d ∷ [])
-four l i a b c d =
-    let e₁ : i + 1 ≡ suc i = omega arith in
-    let e₂ : i + 2 ≡ suc (suc i) = omega arith in
-    let e₃ : i + 3 ≡ suc (suc (suc i)) = omega arith in
-    rw (e₁, e₂, e₃)
-
--- a store leaves the length
-module _ (l : List ℤ) (i : ℕ) (h : i + outcome_size ≤ length l) (a : ℤ) where
-  pub room-second : i + 1 < length (set l i a)
-  room-second = subst (λ (n : ℕ). i + 1 < n) (sym (length-set l i a)) (omega arith)
-
-  module _ (b : ℤ) where
-    pub room-third : i + 2 < length (set (set l i a) (i + 1) b)
-    room-third = subst (λ (n : ℕ). i + 2 < n) (sym (length-set (set l i a) (i + 1) b ∙ length-set l i a)) (omega arith)
-
-    pub room-fourth : (c : ℤ) → i + 3 < length (set (set (set l i a) (i + 1) b) (i + 2) c)
-    room-fourth c =
-        subst (λ (n : ℕ). i + 3 < n) (sym (length-set (set (set l i a) (i + 1) b) (i + 2) c ∙ length-set (set l i a) (i + 1) b ∙ length-set l i a)) (omega arith)
-
-pub small-refused : (e : ℕ) (a : Outcome) → a ≡ Refused e → SmallOutcome a → e < 65536
-small-refused e a h k = subst SmallOutcome h k
-
-pub small-pair : (m n : ℕ) (a : Outcome) → a ≡ Pair m n → SmallOutcome a → (m < 65536) × (n < 65536)
-small-pair m n a h k = subst SmallOutcome h k
-
-pub words-refused : (e : ℕ) (z : ℤ) (a : Outcome) → a ≡ Refused e → z ≡ pos e → z ∷ pos 0 ∷ pos 0 ∷ pos 0 ∷ [] ≡ words_of (outcome_of a)
-words-refused e z a h k = rw (h, k)
-
-pub words-pair : (m n : ℕ) (y z : ℤ) (a : Outcome) → a ≡ Pair m n → y ≡ pos m → z ≡ pos n → pos 0 ∷ pos 2 ∷ y ∷ z ∷ [] ≡ words_of (outcome_of a)
-words-pair m n y z a h k l = rw (h, k, l)
-
-pub words-number : (v z : ℤ) (a : Outcome) → a ≡ Number v → z ≡ v → pos 0 ∷ pos 1 ∷ z ∷ pos 0 ∷ [] ≡ words_of (outcome_of a)
-words-number v z a h k = rw (h, k)
-
-pub words-nothing : (a : Outcome) → a ≡ Nothing → pos 0 ∷ pos 0 ∷ pos 0 ∷ pos 0 ∷ [] ≡ words_of (outcome_of a)
-words-nothing a h = rw h
-
--- the words of an answer, and then those of the answers behind it
+-- ---- Outcomes.
+-- the words of an outcome, and then those of the outcomes behind it
 pub words-next : (o : Outcomeᵐ) (l : List ℤ) (i : ℕ) (vs : List ℤ) → sets (sets l i (words_of o)) (i + outcome_size) vs ≡ sets l i (words_of o ++ vs)
 words-next o l i vs = go o
   where

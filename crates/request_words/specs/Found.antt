@@ -1,18 +1,19 @@
 -- What the functions find and need on their way.
-use Rattle.std.specs.Prelude.{cond, List, ℕ, ◌+◌, ◌-◌, ◌<◌, ltb, ℤ, pos, length, get_or, take, drop}
+use Rattle.std.specs.Prelude.{Result, Ok, Err, cond, List, ℕ, ◌+◌, ◌-◌, ◌<◌, ltb, ℤ, pos, length, get_or, take, drop}
 use Rattle.std.proofs.Math.Option.{Option, none}
 use Rattle.spec_model.specs.Requests.{Request}
 use Rattle.base_numbers.specs.Index.{index_of}
-use Rattle.request_common.specs.declared.Outcome.{Outcome}
-use Rattle.request_common.specs.declared.Outcome.TheVariants.{Refused, Pair, Number, Nothing}
+use Rattle.base_numbers.specs.declared.refusal.Refusal.{Refusal}
+use Rattle.request_common.specs.declared.Answer.{Answer}
+use Rattle.request_common.specs.declared.Answer.TheVariants.{Pair, Number, Nothing}
 use Rattle.request_words.specs.Words.{request}
 
--- The numbers of an outcome, small enough to be words as they are; those of a sound state are (crates/request_run/proofs/Small.antt).
-abbrev pub SmallOutcome : Outcome → Type 0
-SmallOutcome (Refused e) = e < 65536
-SmallOutcome (Pair a b) = (a < 65536) × (b < 65536)
-SmallOutcome (Number v) = Unit
-SmallOutcome Nothing = Unit
+-- The numbers of an outcome, small enough to be words as they are; those of a sound state are (crates/request_run/proofs/Small.antt), and a refusal's is.
+abbrev pub SmallOutcome : Result Answer Refusal → Type 0
+SmallOutcome (Err e) = Unit
+SmallOutcome (Ok (Pair a b)) = (a < 65536) × (b < 65536)
+SmallOutcome (Ok (Number v)) = Unit
+SmallOutcome (Ok Nothing) = Unit
 
 -- The request that begins at a word, as the functions find it.
 -- the words behind the code

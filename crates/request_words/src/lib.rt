@@ -1,21 +1,18 @@
 // Words of a run: where a request stands in a list of them (U2, U7), and an outcome as four (U8). Nothing is served here.
 #![tactic(auto)]
 
-ghost use Rattle.std.specs.Prelude.{◌≡◌, [], ◌∷◌, ◌+◌, ◌≤◌, ◌<◌, pos, length};
+ghost use Rattle.std.specs.Prelude.{◌≡◌, [], ◌∷◌, ◌+◌, ◌≤◌, ◌<◌, pos, length, take, drop, MatchOption};
 ghost use Rattle.std.proofs.lemmas.List.Edits.{sets};
 ghost use Rattle.request_common.specs.Outcome.{outcome_of};
 ghost use Rattle.request_words.specs.Words.{outcome_size, words_of};
-ghost use Rattle.request_words.specs.Found.{SmallOutcome, count_at, next_at};
+ghost use Rattle.request_words.specs.Found.{SmallOutcome, left_at, count_at, next_at};
 
 use base_numbers::index_of;
-use request_common::Outcome;
+use base_numbers::refusal::Refusal;
+use request_common::Answer;
 
-fn word(n: usize) -> i64
-    requires { n < 65536 }
-    ensures { result ≡ pos n }
-{
-    n as i64
-}
+// The words of an outcome (U8).
+pub const OUTCOME: usize = 4;
 
 fn put_words(out: &mut [i64], at: usize, first: i64, second: i64, third: i64, fourth: i64)
     requires { at + outcome_size ≤ length out.old }
@@ -28,29 +25,35 @@ fn put_words(out: &mut [i64], at: usize, first: i64, second: i64, third: i64, fo
 }
 
 // An outcome as four words (U8).
-pub fn put_outcome(out: &mut [i64], at: usize, a: Outcome)
-    requires { (at + outcome_size ≤ length out.old) × SmallOutcome a }
-    ensures { out.new ≡ sets out.old at (words_of (outcome_of a)) }
+pub fn put_outcome(out: &mut [i64], at: usize, outcome: Result<Answer, Refusal>)
+    requires { (at + outcome_size ≤ length out.old) × SmallOutcome outcome }
+    ensures { out.new ≡ sets out.old at (words_of (outcome_of outcome)) }
 {
-    match a {
-        Outcome::Refused(e) => put_words(out, at, word(e), 0, 0, 0),
-        Outcome::Pair { first, second } => put_words(out, at, 0, 2, word(first), word(second)),
-        Outcome::Number(v) => put_words(out, at, 0, 1, v, 0),
-        Outcome::Nothing => put_words(out, at, 0, 0, 0, 0),
+    match outcome {
+        Err(e) => put_words(out, at, e.number() as i64, 0, 0, 0),
+        Ok(Answer::Pair { first, second }) => put_words(out, at, 0, 2, first as i64, second as i64),
+        Ok(Answer::Number(v)) => put_words(out, at, 0, 1, v, 0),
+        Ok(Answer::Nothing) => put_words(out, at, 0, 0, 0, 0),
     }
 }
 
-// How many operands the request at `at` has (U2); as many as there are words behind its code where that says it has more, or nothing says it (U7).
-pub fn operands(words: &[i64], at: usize) -> usize
+// The operands of the request at `at` (U2); nothing where that says it has more than there are words behind its code, or no word says it (U7).
+pub fn operands(words: &[i64], at: usize) -> Option<&[i64]>
     requires { at < length words.now }
-    ensures { result ≡ count_at words.now at }
+    ensures { MatchOption result (left_at words.now at ≤ count_at words.now at)
+        (λ ops. (count_at words.now at < left_at words.now at) × (ops.now ≡ take (count_at words.now at) (drop (at + 2) words.now))) }
 {
     let left = words.len() - at - 1;
     if left == 0 {
-        return 0;
+        return None;
     }
-    let n = words[at + 1];
-    index_of(n, left)
+    let n = index_of(words[at + 1], left);
+    if left <= n {
+        return None;
+    }
+    let first = at + 2;
+    let end = first + n;
+    Some(&words[first..end])
 }
 
 // Where the request behind the one at `at` begins (U6, U7).
@@ -58,10 +61,8 @@ pub fn next(words: &[i64], at: usize) -> usize
     requires { at < length words.now }
     ensures { (result ≡ next_at words.now at) × (at < result) × (result ≤ length words.now) }
 {
-    let left = words.len() - at - 1;
-    let n = operands(words, at);
-    if left <= n {
-        return words.len();
+    match operands(words, at) {
+        Some(ops) => at + 2 + ops.len(),
+        None => words.len(),
     }
-    at + 2 + n
 }

@@ -2,54 +2,48 @@
 use mir.Syntax.{w64}
 use mir.Facts.{to_z-of_z}
 use Rattle.std.proofs.Common.{SFits}
-use mathlib.Core.Path.{refl, ap}
+use mathlib.Core.Path.{refl, sym, ap, ◌∙◌}
+use Prim.Native.Nat.{ℕ}
+use Rattle.std.specs.Prelude.{Some}
 use borrow.Author.Rules.{rules}
 use Rattle.state_record.specs.Whole.{whole}
-use Rattle.state_record.proofs.Kept.{sound-few}
 use Rattle.request_common.specs.Served.{done}
-use Rattle.spec_model.specs.Requests.{nothing}
+use Rattle.state_record.proofs.Kept.{sound-few}
 use Rattle.request_answer.proofs.Laws.{keeps_same, keeps-any, due-is, given-idle, given_nothing, given-lacks, given-value}
 use Rattle.request_answer.proofs.give.Goals as goal
 
 pub target_at-due-requires : goal.target_at-due-requires
 target_at-due-requires c = c.requires.0.checked.limits
 
-pub returns-then-due-eq0 : goal.returns-then-due-eq0
-returns-then-due-eq0 c = let a = c.args in let s = whole a.types.now a.s in (
-  λ subject w. given-idle s c.requires.0 subject a.j c.target_at-due.result
-      (due-is s a.j a.x a.c c.requires.1 c.wide.result c.wide-2.result c.target_at-due.result c.wide.ensures.0 c.wide-2.ensures.0 c.target_at-due.ensures)
-      a.given (done a.types.now c.refused.result) c.if-due-eq0.true _ c.in-Value.is (ap (done a.types.now) c.refused.ensures),
-  keeps_same a.given a.types.now,
-)
-
-pub give_value-requires : goal.give_value-requires
-give_value-requires c = c.requires
-
-pub returns-then-due-ne0 : goal.returns-then-due-ne0
-returns-then-due-ne0 c = let a = c.args in let s = whole a.types.now a.s in (
-  λ subject w. given-lacks s c.requires.0 subject a.j c.target_at-due.result
-      (due-is s a.j a.x a.c c.requires.1 c.wide.result c.wide-2.result c.target_at-due.result c.wide.ensures.0 c.wide-2.ensures.0 c.target_at-due.ensures)
-      a.given (done a.types.now c.refused-then-due-ne0.result) c.if-due-ne0.true c.in-Nothing.is (ap (done a.types.now) c.refused-then-due-ne0.ensures),
-  keeps_same a.given a.types.now,
-)
-
 pub answered-requires : goal.answered-requires
-answered-requires c = (c.requires.1.number, sound-few _ c.requires.0, refl)
+answered-requires c = (c.requires.1.number, sound-few _ c.requires.0)
 
-pub returns-else-due-eq0 : goal.returns-else-due-eq0
-returns-else-due-eq0 c = let a = c.args in let s = whole a.types.now a.s in (
-  λ subject w. let z : SFits w64 c.in-Value.v = search rules in
-      given-value s c.requires.0 subject a.j c.target_at-due.result
-      (due-is s a.j a.x a.c c.requires.1 c.wide.result c.wide-2.result c.target_at-due.result c.wide.ensures.0 c.wide-2.ensures.0 c.target_at-due.ensures)
-      a.given (done c.give_value.new.types c.give_value.result) c.if-due-eq0.false c.in-Value.v c.in-Value.is
-      (rw (to_z-of_z z) at (c.give_value.ensures subject w)),
-  keeps-any a.given c.in-Value.v c.in-Value.is a.types.now c.give_value.new.types,
+pub returns-in-Some-Some : goal.returns-in-Some-Some
+returns-in-Some-Some c = let a = c.args in let s = whole a.types.now a.s.now in let i = c.in-Some-Some in (
+  λ subject w. let z : SFits w64 i.v = search rules in
+      given-value s c.requires.0 subject a.j c.target_at-due.result (due-is s a.j a.x a.c c.requires.1 c.from.result c.from-2.result c.target_at-due.result c.from.ensures c.from-2.ensures c.target_at-due.ensures)
+      a.given (done c.give_value.new.types c.give_value.new.s c.give_value.result) c.from-in-Some-Some.result
+      (i.is-0 ∙ ap (λ (k : ℕ). Some k) (sym c.from-in-Some-Some.ensures)) i.v i.is-1 (rw (to_z-of_z z) at (c.give_value.ensures subject w)),
+  keeps-any a.given i.v i.is-1 a.types.now c.give_value.new.types,
 )
 
-pub returns-else-due-ne0 : goal.returns-else-due-ne0
-returns-else-due-ne0 c = let a = c.args in let s = whole a.types.now a.s in (
-  λ subject w. given_nothing s c.requires.0 subject a.j c.target_at-due.result
-      (due-is s a.j a.x a.c c.requires.1 c.wide.result c.wide-2.result c.target_at-due.result c.wide.ensures.0 c.wide-2.ensures.0 c.target_at-due.ensures)
-      a.given (done a.types.now c.answered.result) c.if-due-ne0.false c.in-Nothing.is (c.answered.ensures a.types.now c.requires.0 nothing refl),
+pub returns-in-None-None : goal.returns-in-None-None
+returns-in-None-None c = let a = c.args in let s = whole a.types.now a.s.now in (
+  λ subject w. given_nothing s c.requires.0 subject a.j c.target_at-due.result (due-is s a.j a.x a.c c.requires.1 c.from.result c.from-2.result c.target_at-due.result c.from.ensures c.from-2.ensures c.target_at-due.ensures)
+      a.given _ c.in-None-None.is-0 c.in-None-None.is-1 (c.answered.ensures a.types.now c.requires.0),
+  keeps_same a.given a.types.now,
+)
+
+pub returns-in_default : goal.returns-in_default
+returns-in_default c = let a = c.args in let s = whole a.types.now a.s.now in (
+  λ subject w. given-lacks s c.requires.0 subject a.j c.target_at-due.result (due-is s a.j a.x a.c c.requires.1 c.from.result c.from-2.result c.target_at-due.result c.from.ensures c.from-2.ensures c.target_at-due.ensures)
+      a.given _ _ c.in_default.is-0 c.in_default.is-1 refl,
+  keeps_same a.given a.types.now,
+)
+
+pub returns-in_default-2 : goal.returns-in_default-2
+returns-in_default-2 c = let a = c.args in let s = whole a.types.now a.s.now in (
+  λ subject w. given-idle s c.requires.0 subject a.j c.target_at-due.result (due-is s a.j a.x a.c c.requires.1 c.from.result c.from-2.result c.target_at-due.result c.from.ensures c.from-2.ensures c.target_at-due.ensures)
+      a.given _ c.in_default.is-0 _ c.in_default.is-1 refl,
   keeps_same a.given a.types.now,
 )

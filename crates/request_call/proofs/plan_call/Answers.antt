@@ -2,38 +2,33 @@
 use mir.Facts.{to_z-of_z}
 use mathlib.Core.Path.{refl, sym, ◌∙◌}
 use native.Mathlib.Omega.{arith}
-use Rattle.spec_model.specs.Refusals.{unknown_subject, not_held, not_callable}
 use Rattle.state_record.specs.Whole.{whole}
-use Rattle.request_call.proofs.Calling.{planned-as, planned-refuses, asked-unknown-subject, who-named, asked-not-held, cell-here, asked-not-callable, asked-goes}
+use Rattle.request_call.proofs.Calling.{planned-as, asked-unknown-subject, who-named, asked-not-held, cell-here, asked-not-callable, asked-goes}
 use Rattle.request_call.proofs.plan_call.Goals as goal
 
 pub returns-then-not-is_subject : goal.returns-then-not-is_subject
-returns-then-not-is_subject c = let a = c.args in let s = whole a.types.now a.s in let f = c.ranges in
-    planned-refuses s a.arguments.now unknown_subject (omega arith)
+returns-then-not-is_subject c = let a = c.args in let s = whole a.types.now a.s.now in let f = c.ranges in
     (asked-unknown-subject s c.requires a.subject a.cell a.method a.arguments.now
     (sym (rw (to_z-of_z f.subject) at (c.is_subject.ensures s refl)) ∙ c.if-not-is_subject.true))
-    c.stops.result c.stops.ensures
 
 pub is_held-requires : goal.is_held-requires
 is_held-requires c = c.requires.cell_count
 
 pub returns-then-not-is_held : goal.returns-then-not-is_held
 returns-then-not-is_held c =
-    let a = c.args in let s = whole a.types.now a.s in let f = c.ranges in
+    let a = c.args in let s = whole a.types.now a.s.now in let f = c.ranges in
     let known = sym (rw (to_z-of_z f.subject) at (c.is_subject.ensures s refl))
     ∙ c.if-not-is_subject.false in
     let who = rw (to_z-of_z f.subject) at c.index_of-who.ensures in
     let w = who-named s c.requires a.subject a.cell a.method a.arguments.now known
     c.index_of-who.result who in
-    planned-refuses s a.arguments.now not_held (omega arith)
     (asked-not-held s c.requires a.subject a.cell a.method a.arguments.now known
     c.index_of-who.result who
     (sym (rw (to_z-of_z f.cell) at (c.is_held.ensures s a.subject refl w.0)) ∙ c.if-not-is_held.true))
-    c.stops-then-not-is_held.result c.stops-then-not-is_held.ensures
 
 pub returns-then-counts-m : goal.returns-then-counts-m
 returns-then-counts-m c =
-    let a = c.args in let s = whole a.types.now a.s in let f = c.ranges in
+    let a = c.args in let s = whole a.types.now a.s.now in let f = c.ranges in
     let known = sym (rw (to_z-of_z f.subject) at (c.is_subject.ensures s refl))
     ∙ c.if-not-is_subject.false in
     let who = rw (to_z-of_z f.subject) at c.index_of-who.ensures in
@@ -41,16 +36,14 @@ returns-then-counts-m c =
     known c.index_of-who.result who in
     let has = sym (rw (to_z-of_z f.cell) at (c.is_held.ensures s a.subject refl w.0))
     ∙ c.if-not-is_held.false in
-    planned-refuses s a.arguments.now not_callable (omega arith)
     (asked-not-callable s c.requires a.subject a.cell a.method a.arguments.now known
     c.index_of-who.result who has
     c.index_of-k.result (rw (to_z-of_z f.cell) at c.index_of-k.ensures)
     c.index_of-m.result (rw (to_z-of_z f.method) at c.index_of-m.ensures) c.if-counts-m.true)
-    c.stops-then-counts-m.result c.stops-then-counts-m.ensures
 
 pub plan_held-requires : goal.plan_held-requires
 plan_held-requires c =
-    let a = c.args in let s = whole a.types.now a.s in let f = c.ranges in
+    let a = c.args in let s = whole a.types.now a.s.now in let f = c.ranges in
     let known = sym (rw (to_z-of_z f.subject) at (c.is_subject.ensures s refl))
     ∙ c.if-not-is_subject.false in
     let who = rw (to_z-of_z f.subject) at c.index_of-who.ensures in
@@ -66,7 +59,7 @@ plan_held-requires c =
 
 pub returns : goal.returns
 returns c =
-    let a = c.args in let s = whole a.types.now a.s in let f = c.ranges in
+    let a = c.args in let s = whole a.types.now a.s.now in let f = c.ranges in
     let known = sym (rw (to_z-of_z f.subject) at (c.is_subject.ensures s refl))
     ∙ c.if-not-is_subject.false in
     let who = rw (to_z-of_z f.subject) at c.index_of-who.ensures in
