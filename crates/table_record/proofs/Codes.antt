@@ -2,11 +2,11 @@
 use mathlib.Core.Path.{◌≡◌, refl, ap}
 use mathlib.Core.Bool.{true, false, not}
 use mathlib.Core.Option.{some}
-use Prim.Native.Nat.{ℕ, zero, suc, ◌-◌, ◌≤◌, ◌<◌}
+use Prim.Native.Nat.{ℕ, zero, suc, ◌-◌, ◌<◌}
 use native.Mathlib.Omega.{arith}
 use lib.Dec.{eqb}
 use borrow.Author.Tests.{ne_eqb}
-use Rattle.spec_model.specs.Table.{unavail, is_ref, is_avail, closed}
+use Rattle.spec_model.specs.Table.{is_ref, is_avail, closed}
 use Rattle.spec_model.specs.Check.{RawType, state_of, rep_of, kind_of, answer_of}
 use Rattle.spec_model.specs.Records.{state_code}
 use Rattle.table_record.specs.Store.{may_stand_as}
@@ -27,12 +27,6 @@ state-back (suc zero) h = refl
 state-back (suc (suc zero)) h = refl
 state-back (suc (suc (suc zero))) h = refl
 state-back (suc (suc (suc (suc s)))) h = absurd (omega arith)
-
-pub state-high : (x : ℕ) → 3 ≤ x → unavail ≡ state_of x
-state-high zero h = absurd (omega arith)
-state-high (suc zero) h = absurd (omega arith)
-state-high (suc (suc zero)) h = absurd (omega arith)
-state-high (suc (suc (suc x))) h = refl
 
 pub not-avail : (y : ℕ) → (y ≡ 2 → ⊥) → is_avail (state_of y) ≡ false
 not-avail zero h = refl
