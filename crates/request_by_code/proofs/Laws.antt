@@ -9,12 +9,14 @@ use borrow.Author.Tests.{eq-eqb, ne_eqb, le-leb, lt-leb}
 use Rattle.spec_model.specs.Basics.{Res}
 use Rattle.spec_model.specs.Requests.{System, Request, Result, Outcome as Outcomeᵐ, got, refused, serve, new_request, move_request, call_request, answer_request, after, outcome}
 use Rattle.spec_model.specs.Coded.{by_code}
-use Rattle.spec_model.specs.Refusals.{form}
 use Rattle.state_record.specs.Whole.{Whole as State}
 use Rattle.state_record.specs.View.{system_in}
 use Rattle.state_record.specs.Sound.{Sound}
-use Rattle.request_common.specs.declared.Outcome.{Outcome}
-use Rattle.request_common.specs.declared.Outcome.TheVariants.{Refused, Pair, Number, Nothing}
+use Rattle.std.specs.Prelude.{Ok, Err}
+use Rattle.std.specs.Prelude.{Result as Either}
+use Rattle.base_numbers.specs.declared.refusal.Refusal.{Refusal}
+use Rattle.base_numbers.specs.declared.refusal.Refusal.TheVariants.{Form}
+use Rattle.request_common.specs.declared.Answer.{Answer}
 use Rattle.request_common.specs.Served.{Done as Served, refusal_of as refusal}
 use Rattle.request_common.specs.Served.{outcome_of, served_with, Step}
 use Rattle.request_common.proofs.Laws.{refuses as step-refuses, refused-means}
@@ -22,7 +24,7 @@ use Rattle.request_by_code.specs.Coded.{serve_asked}
 
 -- ---- One request.
 
-pub refuses : (s : State) (q : Option Request) (r : Served) → Sound s → q ≡ none → r ≡ refusal s form → Step s (serve_asked (system_in s) q) r
+pub refuses : (s : State) (q : Option Request) (r : Served) → Sound s → q ≡ none → r ≡ refusal s Form → Step s (serve_asked (system_in s) q) r
 unfolding serve_asked
 refuses s q r h e k = step-refuses h (ap (serve_asked (system_in s)) e) k
 
@@ -80,8 +82,6 @@ module _ (s : State) (m : Res (System × Result)) (r : Served) (h : Step s m r) 
 
   pub after_is : after (system_in s) m ≡ system_in r.state
   after_is = ap (after (system_in s)) (sym h.is) ∙ go r.outcome refl where
-    go : (a : Outcome) → r.outcome ≡ a → after (system_in s) (served_with (system_in r.state) (outcome_of a)) ≡ system_in r.state
-    go (Refused e) z = sym (refused-means h e z)
-    go (Pair a b) z = refl
-    go (Number v) z = refl
-    go Nothing z = refl
+    go : (a : Either Answer Refusal) → r.outcome ≡ a → after (system_in s) (served_with (system_in r.state) (outcome_of a)) ≡ system_in r.state
+    go (Err e) z = sym (refused-means h e z)
+    go (Ok x) z = refl

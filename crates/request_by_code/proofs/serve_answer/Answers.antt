@@ -1,5 +1,5 @@
 -- Two operands for an answer of nothing, three with the value; else none such.
-use mathlib.Core.Path.{sym, ap}
+use mathlib.Core.Path.{refl, sym}
 use mir.Facts.{to_z-of_z}
 use mir.Syntax.{w64}
 use mir.Val.{SFits}
@@ -9,20 +9,19 @@ use borrow.Author.Rules.{rules}
 use Rattle.state_record.specs.Whole.{whole}
 use Rattle.state_record.specs.View.{system_in}
 use Rattle.spec_model.specs.Coded.{by_code}
-use Rattle.request_common.specs.Served.{done}
 use Rattle.request_common.proofs.Laws.{step-as}
 use Rattle.request_by_code.proofs.Laws.{refuses, answer-none, nothing_is, answer-is}
 use Rattle.request_by_code.proofs.serve_answer.Goals as goal
 
 pub returns-then-ops-eq2 : goal.returns-then-ops-eq2
-returns-then-ops-eq2 c = let a = c.args in let s = whole a.types.now a.s in let w = a.ops.now in let f0 : SFits w64 (get_or w 0 (pos 0)) = search rules in let f1 : SFits w64 (get_or w 1 (pos 0)) = search rules in
+returns-then-ops-eq2 c = let a = c.args in let s = whole a.types.now a.s.now in let w = a.ops.now in let f0 : SFits w64 (get_or w 0 (pos 0)) = search rules in let f1 : SFits w64 (get_or w 1 (pos 0)) = search rules in
     step-as (sym (nothing_is (system_in s) w c.if-ops-eq2.true)) (rw (to_z-of_z f0, to_z-of_z f1) at c.answer_step.ensures.0)
 
 pub returns-then-ops-ne3 : goal.returns-then-ops-ne3
-returns-then-ops-ne3 c = let a = c.args in let s = whole a.types.now a.s in let w = a.ops.now in
-    refuses s (by_code 3 w) (done a.types.now c.refused.result) c.requires (answer-none (system_in s) w c.if-ops-eq2.false c.if-ops-ne3.true)
-    (ap (done a.types.now) c.refused.ensures)
+returns-then-ops-ne3 c = let a = c.args in let s = whole a.types.now a.s.now in let w = a.ops.now in
+    refuses s (by_code 3 w) _ c.requires (answer-none (system_in s) w c.if-ops-eq2.false c.if-ops-ne3.true)
+    refl
 
 pub returns : goal.returns
-returns c = let a = c.args in let s = whole a.types.now a.s in let w = a.ops.now in let f0 : SFits w64 (get_or w 0 (pos 0)) = search rules in let f1 : SFits w64 (get_or w 1 (pos 0)) = search rules in let f2 : SFits w64 (get_or w 2 (pos 0)) = search rules in
+returns c = let a = c.args in let s = whole a.types.now a.s.now in let w = a.ops.now in let f0 : SFits w64 (get_or w 0 (pos 0)) = search rules in let f1 : SFits w64 (get_or w 1 (pos 0)) = search rules in let f2 : SFits w64 (get_or w 2 (pos 0)) = search rules in
     step-as (sym (answer-is (system_in s) w c.if-ops-eq2.false c.if-ops-ne3.false)) (rw (to_z-of_z f0, to_z-of_z f1, to_z-of_z f2) at c.answer_step-2.ensures.0)
