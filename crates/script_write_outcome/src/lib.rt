@@ -1,36 +1,25 @@
 // The line that `script` prints for what a request came to (P12, P13). Each piece is written behind the one before it, in one lent buffer (F2).
 #![tactic(auto)]
 
-ghost use Rattle.std.specs.Prelude.{◌≡◌, [], ◌∷◌, ◌≤◌, nat_abs};
+ghost use Rattle.std.specs.Prelude.{[], ◌∷◌, ◌≤◌};
 ghost use Rattle.spec_model.specs.Requests.{pair, number, got};
 ghost use Rattle.request_common.specs.Served.{outcome_of};
 ghost use Rattle.text_write.specs.Fill.{Filled, Lined};
 ghost use Rattle.script_write_outcome.specs.Outcomes.{integer_text, outcome_text};
 
-use base_numbers::least;
-use request_common::Outcome;
+use base_numbers::refusal::Refusal;
+use request_common::Answer;
 use text_write::{put_byte, put_bytes, put_decimal, put_number, write_number, write_word};
-
-// The number without its sign. That of the least i64 is no i64, so the 1 is added last.
-fn magnitude(v: i64) -> usize
-    ensures { result ≡ nat_abs v }
-{
-    if v < 0 {
-        let k = -(v + 1);
-        return (k as usize) + 1;
-    }
-    v as usize
-}
 
 // A signed decimal.
 fn put_integer(buf: &mut [u8], v: i64) -> usize
     ensures is { Filled buf.old buf.new (integer_text v) result }
     ensures few { result ≤ 21 }
 {
-    let n = magnitude(v);
+    let n = v.unsigned_abs() as usize;
     if v < 0 {
         let a = put_byte(buf, b'-');
-        let k = least(a, buf.len());
+        let k = a.min(buf.len());
         return a + put_decimal(&mut buf[k..], n);
     }
     put_decimal(buf, n)
@@ -42,7 +31,7 @@ fn write_pair(buf: &mut [u8], first: usize, second: usize) -> usize
     ensures few { result ≤ 73 }
 {
     let a = put_number(buf, b"got=", first);
-    let k = least(a, buf.len());
+    let k = a.min(buf.len());
     a + write_number(&mut buf[k..], b" ", second)
 }
 
@@ -52,21 +41,21 @@ fn write_integer(buf: &mut [u8], v: i64) -> usize
     ensures few { result ≤ 26 }
 {
     let a = put_bytes(buf, b"got=");
-    let k = least(a, buf.len());
+    let k = a.min(buf.len());
     let a = a + put_integer(&mut buf[k..], v);
-    let j = least(a, buf.len());
+    let j = a.min(buf.len());
     a + put_byte(&mut buf[j..], b'\n')
 }
 
 // The line of an outcome.
-pub fn write_outcome(buf: &mut [u8], a: Outcome) -> usize
+pub fn write_outcome(buf: &mut [u8], a: Result<Answer, Refusal>) -> usize
     ensures is { Lined buf.old buf.new (outcome_text (outcome_of a) ∷ []) result }
     ensures few { result ≤ 73 }
 {
     match a {
-        Outcome::Refused(e) => write_number(buf, b"no=", e),
-        Outcome::Pair { first, second } => write_pair(buf, first, second),
-        Outcome::Number(v) => write_integer(buf, v),
-        Outcome::Nothing => write_word(buf, b"got=-"),
+        Ok(Answer::Pair { first, second }) => write_pair(buf, first, second),
+        Ok(Answer::Number(v)) => write_integer(buf, v),
+        Ok(Answer::Nothing) => write_word(buf, b"got=-"),
+        Err(e) => write_number(buf, b"no=", e.number()),
     }
 }
