@@ -1,20 +1,15 @@
 -- The pieces that are written one behind the other are the text of the definition, case by case.
-use mathlib.Core.Path.{◌≡◌, refl, sym, ap, ◌∙◌, subst}
-use mathlib.Core.Bool.{Bool, true, false, cond}
+use mathlib.Core.Path.{◌≡◌, ap}
+use mathlib.Core.Bool.{Bool, true, false}
 use mathlib.Core.List.{[], ◌∷◌, ◌++◌}
-use Prim.Native.Nat.{ℕ, zero, suc, ◌+◌, ◌-◌, ◌<◌, ◌^◌}
-use native.Mathlib.Nat.{zero-add}
-use native.Mathlib.Numerals.{add-one}
+use Prim.Native.Nat.{ℕ, ◌<◌}
 use native.Mathlib.Omega.{arith}
-use lib.IntN.{ℤ, pos, negsuc, nat_abs, ◌+ℤ◌, ◌-ℤ◌}
+use lib.IntN.{ℤ, pos, negsuc, nat_abs}
 use lib.Signed.{lt_z}
-use mir.Syntax.{w64}
-use mir.Val.{SFits}
-use borrow.Author.Tests.{ltb-true, lt-ltb}
-use Rattle.spec_model.specs.Requests.{pair, number, got}
+use borrow.Author.Tests.{ltb-true}
+use Rattle.spec_model.specs.Requests.{number, got}
 use Rattle.spec_sheet.specs.Lines.{bytes}
 use Rattle.spec_sheet.specs.Numbers.{decimal}
-use Rattle.spec_sheet.specs.Text.{number_text}
 use Rattle.script_write_outcome.specs.Outcomes.{integer_text, outcome_text}
 
 -- ---- a signed decimal
