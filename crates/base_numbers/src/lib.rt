@@ -51,6 +51,7 @@ pub fn least(a: usize, b: usize) -> usize
 }
 
 // The number that z names, or n itself, which is none of them.
+// Kept: n and no Option, as the theorems of Q12 speak of it (`index-within`, `index-above`).
 pub fn index_of(z: i64, n: usize) -> usize
     ensures { result ≡ index_of z n }
 {

@@ -63,6 +63,7 @@ impl Counts {
 }
 
 // A method of a type: the state's code, and the signature. `count` arguments are used; `answer` is 0 for none, else the type's number plus 1.
+// Kept: bytes and no enums, Options or slices, since those of a table handed in may hold any number (H1 to H8; H15 for what is not looked at).
 #[derive(Clone, Copy)]
 pub struct Method {
     pub state: u8,
@@ -107,6 +108,7 @@ impl Method {
 }
 
 // A type without its methods: codes of representation, category and own; of a derived type its kind, left and right, else 0.
+// Kept: bytes and no enums, since those of a table handed in may hold any number (H1 to H8).
 #[derive(Clone, Copy)]
 pub struct Head {
     pub rep: u8,
