@@ -7,6 +7,7 @@ ghost use Rattle.request_operands.specs.Operands.{answer_operands, call_operands
 use table_record::Counts;
 
 // The codes of the requests (U3 to U5), and how many there are.
+// Kept: the C interface (a code is a number of a run's words, which may be any: U6, `by_code`).
 pub const NEW: usize = 0;
 
 pub const MOVE: usize = 1;
@@ -23,6 +24,7 @@ const FIRST: usize = 3;
 // The most operands of a call that are looked at: of its arguments, one more than a signature may have.
 const OPERANDS: usize = FIRST + Counts::ARGUMENTS + 1;
 
+// Kept: a rule (no heap, fixed memory).
 #[derive(Clone, Copy)]
 pub struct Operands {
     pub count: usize,
@@ -44,6 +46,7 @@ pub fn call_operands(subject: i64, cell: i64, method: i64, arguments: &[i64]) ->
 }
 
 // How many operands an answer has: a third where a value is given (U5).
+// Kept: the C interface (`given` is a number that C hands in).
 pub fn answer_count(given: usize) -> usize
     ensures { result ≡ answer_operands given }
 {
