@@ -8,12 +8,10 @@ ghost use Rattle.std.proofs.lemmas.List.Edits.{sets};
 ghost use Rattle.spec_model.specs.Crossing.{max_places};
 ghost use Rattle.spec_model.specs.Requests.{max_cells, max_calls};
 ghost use Rattle.state_record.specs.Whole.{whole};
-ghost use Rattle.state_bytes.specs.Flat.{flat, counts_in, cell_count, place_count, call_count, cell_size, place_size, call_size, cells_size, places_size};
+ghost use Rattle.state_bytes.specs.Flat.{flat, counts_in, cell_count, place_count, call_count, cell_size, place_size, call_size};
 ghost use Rattle.state_bytes.specs.Records.{cell_from, place_from, call_from, cells_from, places_from, calls_from, state_from, place_codes};
 ghost use Rattle.state_bytes.specs.Records.{call_codes, place_by, cell_bytes, place_bytes, call_bytes, CellsTo, PlacesTo, CallsTo};
-ghost use Rattle.state_bytes.specs.Flat.{calls_size};
 
-use base_numbers::{bit_of, least};
 use state_record::{Call, Calls, Cell, Cells, Place, PlaceRec, Places, State};
 use table_record::{Counts, LINK_BYTES};
 
@@ -46,22 +44,16 @@ pub fn cell_from(b: &[u8; CELL_BYTES], k: usize) -> Cell
 pub fn cells_from(b: &[u8; CELL_BYTES], count: usize) -> Cells
     ensures { result ≡ cells_from b.now count }
 {
-    let blank = Cell {
-        holder: 0,
-        ty: 0,
-        place: 0,
-    };
-    let mut list = [blank; State::CELLS];
-    let n = least(count, State::CELLS);
-    let mut k: usize = 0;
-    while k < n {
+    let n = count.min(State::CELLS);
+    let mut list = Cells::none().list;
+    for k in 0..n {
         list[k] = cell_from(b, k);
-        k += 1;
     }
     Cells { list, count }
 }
 
 // A place by its code (B27); a code that names nothing is read as an adapter's, and `codes_fit` refuses it.
+// Kept: the code is a byte, by a rule (H2: a state that is handed in may hold any).
 fn place_by(code: u8, first: u8, second: u8) -> Place
     ensures { result ≡ place_by code first second }
 {
@@ -89,15 +81,10 @@ pub fn place_from(b: &[u8; PLACE_BYTES], p: usize) -> PlaceRec
 pub fn places_from(b: &[u8; PLACE_BYTES], count: usize) -> Places
     ensures { result ≡ places_from b.now count }
 {
-    let blank = PlaceRec {
-        place: Place::Object { class: 0, owner: 0 },
-    };
-    let mut list = [blank; State::PLACES];
-    let n = least(count, State::PLACES);
-    let mut p: usize = 0;
-    while p < n {
+    let n = count.min(State::PLACES);
+    let mut list = Places::none().list;
+    for p in 0..n {
         list[p] = place_from(b, p);
-        p += 1;
     }
     Places { list, count }
 }
@@ -120,18 +107,10 @@ pub fn call_from(b: &[u8; CALL_BYTES], j: usize) -> Call
 pub fn calls_from(b: &[u8; CALL_BYTES], count: usize) -> Calls
     ensures { result ≡ calls_from b.now count }
 {
-    let blank = Call {
-        caller: 0,
-        cell: 0,
-        method: 0,
-        answered: false,
-    };
-    let mut list = [blank; State::CALLS];
-    let n = least(count, State::CALLS);
-    let mut j: usize = 0;
-    while j < n {
+    let n = count.min(State::CALLS);
+    let mut list = Calls::none().list;
+    for j in 0..n {
         list[j] = call_from(b, j);
-        j += 1;
     }
     Calls { list, count }
 }
@@ -140,15 +119,11 @@ pub fn calls_from(b: &[u8; CALL_BYTES], count: usize) -> Calls
 fn place_codes(b: &[u8; PLACE_BYTES], count: usize) -> bool
     ensures { result ≡ place_codes b.now count }
 {
-    let mut p: usize = 0;
-    while p < count {
-        if p == State::PLACES {
-            return true;
-        }
+    let n = count.min(State::PLACES);
+    for p in 0..n {
         if 1 < b[p * PLACE_SIZE] {
             return false;
         }
-        p += 1;
     }
     true
 }
@@ -157,15 +132,11 @@ fn place_codes(b: &[u8; PLACE_BYTES], count: usize) -> bool
 fn call_codes(b: &[u8; CALL_BYTES], count: usize) -> bool
     ensures { result ≡ call_codes b.now count }
 {
-    let mut j: usize = 0;
-    while j < count {
-        if j == State::CALLS {
-            return true;
-        }
+    let n = count.min(State::CALLS);
+    for j in 0..n {
         if 1 < b[j * CALL_SIZE + 3] {
             return false;
         }
-        j += 1;
     }
     true
 }
@@ -173,24 +144,8 @@ fn call_codes(b: &[u8; CALL_BYTES], count: usize) -> bool
 pub fn codes_fit(places: &[u8; PLACE_BYTES], calls: &[u8; CALL_BYTES], pn: usize, cn: usize) -> bool
     ensures { result ≡ (place_codes places.now pn && call_codes calls.now cn) }
 {
-    if !place_codes(places, pn) {
-        return false;
-    }
-    call_codes(calls, cn)
+    place_codes(places, pn) && call_codes(calls, cn)
 }
-
-// An array that is held has its length, of a lent one nothing says it; the copy goes when these are inlined.
-fn cell_bytes(b: [u8; CELL_BYTES])
-    ensures { length b ≡ cells_size }
-{}
-
-fn place_bytes(b: [u8; PLACE_BYTES])
-    ensures { length b ≡ places_size }
-{}
-
-fn call_bytes(b: [u8; CALL_BYTES])
-    ensures { length b ≡ calls_size }
-{}
 
 // The bytes of a cell, at its place in the array.
 fn put_cell(b: &mut [u8; CELL_BYTES], k: usize, c: Cell)
@@ -207,13 +162,9 @@ fn put_cell(b: &mut [u8; CELL_BYTES], k: usize, c: Cell)
 pub fn cells_to(b: &mut [u8; CELL_BYTES], cs: Cells)
     ensures { CellsTo cs b.old b.new }
 {
-    cell_bytes(*b);
-    let n = least(cs.count, State::CELLS);
-    let mut k: usize = 0;
-    while k < n {
-        let c = cs.list[k];
-        put_cell(b, k, c);
-        k += 1;
+    let n = cs.count.min(State::CELLS);
+    for k in 0..n {
+        put_cell(b, k, cs.list[k]);
     }
 }
 
@@ -242,14 +193,9 @@ fn put_place(b: &mut [u8; PLACE_BYTES], p: usize, x: Place)
 pub fn places_to(b: &mut [u8; PLACE_BYTES], ps: Places)
     ensures { PlacesTo ps b.old b.new }
 {
-    place_bytes(*b);
-    let n = least(ps.count, State::PLACES);
-    let mut p: usize = 0;
-    while p < n {
-        let x = ps.list[p];
-        let y = x.place;
-        put_place(b, p, y);
-        p += 1;
+    let n = ps.count.min(State::PLACES);
+    for p in 0..n {
+        put_place(b, p, ps.list[p].place);
     }
 }
 
@@ -262,20 +208,16 @@ fn put_call(b: &mut [u8; CALL_BYTES], j: usize, c: Call)
     b[at] = c.caller;
     b[at + 1] = c.cell;
     b[at + 2] = c.method;
-    b[at + 3] = bit_of(c.answered);
+    b[at + 3] = u8::from(c.answered);
 }
 
 // The counted calls; every byte behind them stays.
 pub fn calls_to(b: &mut [u8; CALL_BYTES], js: Calls)
     ensures { CallsTo js b.old b.new }
 {
-    call_bytes(*b);
-    let n = least(js.count, State::CALLS);
-    let mut j: usize = 0;
-    while j < n {
-        let c = js.list[j];
-        put_call(b, j, c);
-        j += 1;
+    let n = js.count.min(State::CALLS);
+    for j in 0..n {
+        put_call(b, j, js.list[j]);
     }
 }
 
@@ -303,17 +245,12 @@ pub fn state_from(
     ensures { (t : List ℕ)
         → whole t result ≡ state_from (flat t links.now cells.now places.now calls.now counts) }
 {
-    let l = *links;
-    let n = counts_from(counts);
-    let cs = cells_from(cells, counts[5]);
-    let ps = places_from(places, counts[6]);
-    let js = calls_from(calls, counts[7]);
     State {
-        links: l,
-        counts: n,
-        cells: cs,
-        places: ps,
-        calls: js,
+        links: *links,
+        counts: counts_from(counts),
+        cells: cells_from(cells, counts[5]),
+        places: places_from(places, counts[6]),
+        calls: calls_from(calls, counts[7]),
     }
 }
 

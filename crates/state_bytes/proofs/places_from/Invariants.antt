@@ -1,5 +1,4 @@
--- The array is filled place by place, up to the count or the array's end (Filling).
-use Prim.Native.Nat.{◌-◌, ◌≤◌}
+-- The array is filled record by record, up to the count or the array's end (Filling).
 use Rattle.state_record.specs.View.{blank_place}
 use Rattle.state_bytes.specs.Records.{place_from}
 use Rattle.state_bytes.proofs.Filling.{Filled}
@@ -7,7 +6,4 @@ use Rattle.spec_model.specs.Crossing.{max_places}
 use Rattle.state_bytes.proofs.places_from.Given as goal
 
 abbrev pub invariant-loop-p : goal.invariant-loop-p
-invariant-loop-p l = (l.p ≤ l.n) × Filled blank_place (place_from l.b) max_places l.p l.list
-
-abbrev pub decreases-loop-p : goal.decreases-loop-p
-decreases-loop-p l = l.n - l.p
+invariant-loop-p l = Filled blank_place (place_from l.b) max_places l.p l.list

@@ -8,5 +8,5 @@ use Rattle.state_bytes.specs.Flat.{call_size}
 use Rattle.state_bytes.proofs.put_call.Goals as goal
 
 pub returns : goal.returns
-returns c = let a = c.args in four a.b.now (a.j * call_size) a.c.caller a.c.cell a.c.method c.bit_of.result
-    ∙ ap (λ (v : ℕ). sets a.b.now (a.j * call_size) (a.c.caller ∷ a.c.cell ∷ a.c.method ∷ v ∷ [])) c.bit_of.ensures.0
+returns c = let a = c.args in four a.b.now (a.j * call_size) a.c.caller a.c.cell a.c.method c.from.result
+    ∙ ap (λ (v : ℕ). sets a.b.now (a.j * call_size) (a.c.caller ∷ a.c.cell ∷ a.c.method ∷ v ∷ [])) c.from.ensures

@@ -1,33 +1,26 @@
-use mathlib.Core.Bool.{not}
-use mathlib.Core.Path.{◌≡◌, refl, ap, sym, ◌∙◌}
-use Prim.Native.Nat.{ℕ, ◌-◌}
-use native.Mathlib.Omega.{arith}
+use Rattle.std.proofs.Common.{◌≡◌, ◌-◌, ℕ, ap, sym, ◌∙◌, arith}
 use Rattle.table_check_links.proofs.Each.{rest-next, rest-broken, rest_end}
-use Rattle.table_check_links.proofs.Steps.{refused, passed}
 use Rattle.table_check_links.specs.Parts.{each_from}
 use Rattle.state_check.specs.Parts.{places_accepted}
-use Rattle.state_check.proofs.Steps.{PlaceAt}
+use Rattle.state_check.proofs.Steps.{PlaceAt, place-tested}
 use Rattle.state_check.proofs.places_fit.Goals as goal
 
 pub loop-p-init : goal.loop-p-init
 unfolding places_accepted
-loop-p-init c = let a = c.args in let e : a.ps.count ≡ a.ps.count - 0 = omega arith in (omega arith, refl, ap (λ (z : ℕ). each_from z 0 (PlaceAt a.b.now a.c a.ps)) e)
-
-pub place_fits-requires : goal.place_fits-requires
-place_fits-requires c = c.requires.0
+loop-p-init g c = let a = c.args in let cs = g.H.Held.places a.h.now in
+    let e : cs.count ≡ cs.count - 0 = omega arith in
+    ap (λ (z : ℕ). each_from z 0 (PlaceAt a.b.now a.c cs)) e
 
 pub returns-then-not-place_fits : goal.returns-then-not-place_fits
-returns-then-not-place_fits c = let a = c.args in let l = c.loop-p in
-    sym (l.invariant.2 ∙ rest-broken (PlaceAt a.b.now a.c a.ps) a.ps.count l.p c.loop-p-test.true
-    (refused c.place_fits.result _ c.place_fits.ensures (ap not c.if-not-place_fits.true)))
+returns-then-not-place_fits g c = let a = c.args in let cs = g.H.Held.places a.h.now in
+    sym (c.loop-p.invariant ∙ rest-broken (PlaceAt a.b.now a.c cs) cs.count c.loop-p.p (omega (arith, c.loop-p-test.true, c.place_count-p-end.ensures))
+    (sym (place-tested a.c _ a.b.now cs c.loop-p.p _ c.place.ensures c.place_fits.ensures) ∙ c.if-not-place_fits.true))
 
 pub loop-p-preserved : goal.loop-p-preserved
-loop-p-preserved c = let a = c.args in let l = c.loop-p in (
-  omega arith,
-  refl,
-  l.invariant.2 ∙ rest-next (PlaceAt a.b.now a.c a.ps) a.ps.count l.p c.loop-p-test.true
-      (passed c.place_fits.result _ c.place_fits.ensures (ap not c.if-not-place_fits.false)),
-)
+loop-p-preserved g c = let a = c.args in let cs = g.H.Held.places a.h.now in
+    c.loop-p.invariant ∙ rest-next (PlaceAt a.b.now a.c cs) cs.count c.loop-p.p (omega (arith, c.loop-p-test.true, c.place_count-p-end.ensures))
+    (sym (place-tested a.c _ a.b.now cs c.loop-p.p _ c.place.ensures c.place_fits.ensures) ∙ c.if-not-place_fits.false)
 
 pub returns : goal.returns
-returns c = let a = c.args in let l = c.loop-p in sym (l.invariant.2 ∙ rest_end (PlaceAt a.b.now a.c a.ps) a.ps.count l.p c.loop-p-test.false)
+returns g c = let a = c.args in let cs = g.H.Held.places a.h.now in
+    sym (c.loop-p.invariant ∙ rest_end (PlaceAt a.b.now a.c cs) cs.count c.loop-p.p (omega (arith, c.loop-p-test.false, c.place_count-p-end.ensures)))

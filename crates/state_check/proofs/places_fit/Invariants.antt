@@ -1,6 +1,6 @@
 -- The invariant: the whole test is what is left of it (`rest-next`, `rest-broken`, `rest_end`).
 use mathlib.Core.Path.{◌≡◌}
-use Prim.Native.Nat.{◌-◌, ◌≤◌}
+use Prim.Native.Nat.{◌-◌}
 use Rattle.table_record.specs.Store.{types_in}
 use Rattle.table_check_links.specs.Parts.{each_from}
 use Rattle.state_check.specs.Parts.{places_accepted}
@@ -8,7 +8,4 @@ use Rattle.state_check.proofs.Steps.{PlaceAt}
 use Rattle.state_check.proofs.places_fit.Given as goal
 
 abbrev pub invariant-loop-p : goal.invariant-loop-p
-invariant-loop-p l = (l.p ≤ l.n) × (l.n ≡ l.ps.count) × (places_accepted (types_in l.b) l.c l.ps ≡ each_from (l.n - l.p) l.p (PlaceAt l.b l.c l.ps))
-
-abbrev pub decreases-loop-p : goal.decreases-loop-p
-decreases-loop-p l = l.n - l.p
+invariant-loop-p g l = let cs = g.H.Held.places l.h in places_accepted (types_in l.b) l.c cs ≡ each_from (cs.count - l.p) l.p (PlaceAt l.b l.c cs)
