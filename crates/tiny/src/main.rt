@@ -2,15 +2,13 @@
 // stream.
 #![tactic(auto)]
 
-use text_write::Wrote;
 use tiny_output::PRINTED_BYTES;
 
 fn main(rt: HostRuntime) {
     let mut stdout = rt.stdout();
     let mut stderr = rt.stderr();
     let mut out = [0u8; PRINTED_BYTES];
-    let w = tiny_output::tiny(&mut out);
-    let Wrote::Length(length) = w else {
+    let Ok(length) = tiny_output::tiny(&mut out) else {
         return;
     };
     base_streams::print(
