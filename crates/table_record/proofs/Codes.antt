@@ -6,8 +6,8 @@ use Prim.Native.Nat.{ℕ, zero, suc, ◌-◌, ◌<◌}
 use native.Mathlib.Omega.{arith}
 use lib.Dec.{eqb}
 use borrow.Author.Tests.{ne_eqb}
-use Rattle.spec_model.specs.Table.{is_ref, is_avail, closed}
-use Rattle.spec_model.specs.Check.{RawType, state_of, rep_of, kind_of, answer_of}
+use Rattle.spec_model.specs.Table.{is_ref, is_avail}
+use Rattle.spec_model.specs.Check.{RawType, state_of, rep_of, answer_of}
 use Rattle.spec_model.specs.Records.{state_code}
 use Rattle.table_record.specs.Store.{may_stand_as}
 
@@ -38,11 +38,6 @@ not-avail (suc (suc (suc y))) h = refl
 pub answer-is : (x : ℕ) → (x ≡ 0 → ⊥) → answer_of x ≡ some (x - 1)
 answer-is zero h = absurd (h refl)
 answer-is (suc n) h = let e : n ≡ suc n - 1 = omega arith in ap (λ (k : ℕ). some k) e
-
-pub closed-kind : (k : ℕ) → (k ≡ 0 → ⊥) → (k ≡ 1 → ⊥) → kind_of k ≡ closed
-closed-kind zero p q = absurd (p refl)
-closed-kind (suc zero) p q = absurd (q refl)
-closed-kind (suc (suc k)) p q = refl
 
 pub ref-rep : (r : ℕ) → r ≡ 0 → is_ref (rep_of r) ≡ true
 ref-rep r e = ap (λ (n : ℕ). is_ref (rep_of n)) e
