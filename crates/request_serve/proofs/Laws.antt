@@ -10,6 +10,8 @@ use lib.IntN.{ℤ}
 use lib.ListN.{take, drop, drop_of_length-le}
 use Rattle.spec_model.specs.Basics.{Res, refuse, ok, need}
 use Rattle.spec_model.specs.Table.{Ty, size}
+use Rattle.std.specs.Prelude.{Ok, Err}
+use Rattle.std.specs.Prelude.{Result as Either}
 use Rattle.spec_model.specs.Requests.{System, Request, Result, Outcome as Outcomeᵐ, got, refused, outcome, serve, after}
 use Rattle.spec_model.specs.Check.{system_accepted, system_of}
 use Rattle.spec_model.specs.Handed.{counted, hand_back, serve_handed}
@@ -26,53 +28,52 @@ use Rattle.state_record.specs.Whole.{Whole as State}
 use Rattle.state_record.specs.Whole.{whole}
 use Rattle.state_record.specs.Sound.{Sound}
 use Rattle.state_record.specs.View.{raw_state, system_in, with_types}
-use Rattle.request_common.specs.declared.Outcome.{Outcome}
-use Rattle.request_common.specs.declared.Outcome.TheVariants.{Refused, Pair, Number, Nothing}
-use Rattle.request_common.specs.declared.Served.{Served}
+use Rattle.base_numbers.specs.declared.refusal.Refusal.{Refusal}
+use Rattle.base_numbers.specs.declared.refusal.Refusal.TheVariants as refusals
+use Rattle.base_numbers.specs.Refusal.{number_of}
+use Rattle.request_common.specs.declared.Answer.{Answer}
 use Rattle.request_common.specs.Served.{Done, refusal_of as refusal}
 use Rattle.request_common.specs.Served.{outcome_of, served_with, served_as, done, Step}
 use Rattle.request_common.proofs.Laws.{refuses}
 use Rattle.request_common.specs.Back.{is_accepted}
-use Rattle.request_call.specs.declared.Plan.{Plan}
-use Rattle.request_call.specs.Called.{Planned}
 use Rattle.request_by_code.specs.Coded.{serve_asked}
 use Rattle.request_by_code.proofs.Laws.{outcome-is}
 use Rattle.request_serve.specs.Serves.{defined, leaves, Serves, ServesAsked}
 use Rattle.request_common.specs.Back.{given_back}
-use Rattle.request_serve.specs.Known.{Known}
 use Rattle.request_serve.proofs.Stored.{sized, counted-stored, counts-stored, bytes-stored}
 
--- the answers that are refusals
-refused-answer : (a : Outcome) (e : ℕ) → outcome_of a ≡ refused e → a ≡ Refused e
-refused-answer (Refused n) e p = ap Refused (ap number p)
+-- what a refusal leaves, whose number the model gives
+refused-stays : {P : Type 0} (a : Either Answer Refusal) → ((d : Refusal) → a ≡ Err d → P) → (e : ℕ) → outcome_of a ≡ refused e → P
+refused-stays (Err d) f e p = f d refl
+refused-stays (Ok x) f e p = absurd cc
+
+-- 1 is the number of one refusal alone
+numbered_form : (d : Refusal) → number_of d ≡ form → d ≡ refusals.Form
+numbered_form d h = grind arith
+
+refused-form : (a : Either Answer Refusal) → outcome_of a ≡ refused form → a ≡ Err refusals.Form
+refused-form (Err d) p = ap Err (numbered_form d (ap number p))
   where
     number : Outcomeᵐ → ℕ
     number (refused n) = n
     number (got x) = 0
-refused-answer (Pair a b) e p = let z : ◌≡◌ {A = ℕ} 0 1 = cc in absurd (omega arith)
-refused-answer (Number v) e p = let z : ◌≡◌ {A = ℕ} 0 1 = cc in absurd (omega arith)
-refused-answer Nothing e p = let z : ◌≡◌ {A = ℕ} 0 1 = cc in absurd (omega arith)
+refused-form (Ok x) p = absurd cc
 
--- ---- What a step leaves, t, and what is left of it once a refused one has given back the types: t'.
-module _ {b t t' : List ℕ} {s : Rest} {m : Res (System × Result)} {r : Served} (h : Sound (whole b s)) (w : Step (whole b s) m (done t r)) (e : t' ≡ given_back b t r.outcome) where
-  back-stays : (d : ℕ) → r.outcome ≡ Refused d → whole t' r.state ≡ whole b s
-  back-stays d z = ap (λ (x : List ℕ). whole x r.state) (e ∙ ap (given_back b t) z) ∙ ap (λ (x : State). with_types x b) (w.stays d z)
+-- ---- What a step leaves, t and s₁, and what is left of it once a refused one has given back the types: t'.
+module _ {b t t' : List ℕ} {s s₁ : Rest} {m : Res (System × Result)} {r : Either Answer Refusal} (h : Sound (whole b s)) (w : Step (whole b s) m (done t s₁ r)) (e : t' ≡ given_back b t r) where
+  back-stays : (d : Refusal) → r ≡ Err d → whole t' s₁ ≡ whole b s
+  back-stays d z = ap (λ (x : List ℕ). whole x s₁) (e ∙ ap (given_back b t) z) ∙ ap (λ (x : State). with_types x b) (w.stays d z)
 
-  back_step : Step (whole b s) m (done t' r)
-  back_step = go r.outcome refl
+  back_step : Step (whole b s) m (done t' s₁ r)
+  back_step = go r refl
     where
-      kept : (a : Outcome) → r.outcome ≡ a → given_back b t a ≡ t → Step (whole b s) m (done t' r)
-      kept a z y = subst (λ (x : List ℕ). Step (whole b s) m (done x r)) (sym (e ∙ ap (given_back b t) z ∙ y)) w
-
-      go : (a : Outcome) → r.outcome ≡ a → Step (whole b s) m (done t' r)
-      go (Refused d) z = refuses h (sym w.is ∙ ap (λ (a : Outcome). served_with (system_in (whole t r.state)) (outcome_of a)) z)
-          (ap (λ (a : Outcome). record { outcome = a; state = whole t' r.state }) z ∙ ap (λ (x : State). refusal x d) (back-stays d z))
-      go (Pair x y) z = kept (Pair x y) z refl
-      go (Number v) z = kept (Number v) z refl
-      go Nothing z = kept Nothing z refl
+      go : (a : Either Answer Refusal) → r ≡ a → Step (whole b s) m (done t' s₁ r)
+      go (Err d) z = refuses h (sym w.is ∙ ap (λ (a : Either Answer Refusal). served_with (system_in (whole t s₁)) (outcome_of a)) z)
+          (ap (λ (a : Either Answer Refusal). record { outcome = a; state = whole t' s₁ }) z ∙ ap (λ (x : State). refusal x d) (back-stays d z))
+      go (Ok x) z = subst (λ (x : List ℕ). Step (whole b s) m (done x s₁ r)) (sym (e ∙ ap (given_back b t) z)) w
 
 -- ---- a step
-module _ (s : State) (q : Request) (r : Done) (h : So (system_accepted (raw_state s))) (w : Step s (serve (system_in s) q) r) (stays : (e : ℕ) → r.outcome ≡ Refused e → r.state ≡ s) where
+module _ (s : State) (q : Request) (r : Done) (h : So (system_accepted (raw_state s))) (w : Step s (serve (system_in s) q) r) (stays : (e : Refusal) → r.outcome ≡ Err e → r.state ≡ s) where
   abbrev s' : State
   s' = r.state
 
@@ -88,11 +89,11 @@ module _ (s : State) (q : Request) (r : Done) (h : So (system_accepted (raw_stat
   answers (got x) = refl
 
   stored : (o : Outcomeᵐ) → outcome_of r.outcome ≡ o → counted (raw_state s') ≡ counted (hand_back (raw_state s) (served_with (system_in s') o)).state
-  stored (refused e) p = ap (λ x. counted (raw_state x)) (stays e (refused-answer r.outcome e p))
+  stored (refused e) p = ap (λ x. counted (raw_state x)) (refused-stays r.outcome stays e p)
   stored (got x) p = counted-stored s s' w.stored
 
   left-with : (o : Outcomeᵐ) → outcome_of r.outcome ≡ o → after (system_in s) (served_with (system_in s') o) ≡ system_in s'
-  left-with (refused e) p = ap system_in (sym (stays e (refused-answer r.outcome e p)))
+  left-with (refused e) p = ap system_in (sym (refused-stays r.outcome stays e p))
   left-with (got x) p = refl
 
   left : leaves s q ≡ system_in s'
@@ -103,7 +104,7 @@ module _ (s : State) (q : Request) (r : Done) (h : So (system_accepted (raw_stat
     returns = record {
       outcome = answers (outcome_of r.outcome) ∙ ap (λ x. x.outcome) (sym handed);
       records = stored (outcome_of r.outcome) refl ∙ ap (λ x. counted x.state) (sym handed);
-      untouched = λ e p. ap raw_state (stays e (refused-answer r.outcome e p));
+      untouched = λ e p. ap raw_state (refused-stays r.outcome stays e p);
     };
     stays = stays;
     links = w.stored.links;
@@ -114,29 +115,22 @@ module _ (s : State) (q : Request) (r : Done) (h : So (system_accepted (raw_stat
   }
 
 -- a step on a state that was taken, its types given back
-pub back-serves : (b t t' : List ℕ) (s : Rest) (q : Option Request) (r : Served) → Sound (whole b s) → So (system_accepted (raw_state (whole b s)))
-    → Step (whole b s) (serve_asked (system_in (whole b s)) q) (done t r) → t' ≡ given_back b t r.outcome → ServesAsked (whole b s) q (done t' r)
+pub back-serves : (b t t' : List ℕ) (s s₁ : Rest) (q : Option Request) (r : Either Answer Refusal) → Sound (whole b s) → So (system_accepted (raw_state (whole b s)))
+    → Step (whole b s) (serve_asked (system_in (whole b s)) q) (done t s₁ r) → t' ≡ given_back b t r → ServesAsked (whole b s) q (done t' s₁ r)
 unfolding serve_asked
-back-serves b t t' s none r h k w e = let z = refused-answer r.outcome form (sym (outcome-is (whole b s) (refuse form) (done t r) w)) in
-    ap (λ (x : State). record { outcome = r.outcome; state = x }) (back-stays h w e form z) ∙ ap (λ (a : Outcome). record { outcome = a; state = whole b s }) z
-    ∙ ap (λ (x : Bool). refusal (whole b s) (cond x form out_of_range)) (sym k)
-back-serves b t t' s (some q) r h k w e = step-serves (whole b s) q (done t' r) k (back_step h w e) (back-stays h w e)
+back-serves b t t' s s₁ none r h k w e = let z = refused-form r (sym (outcome-is (whole b s) (refuse form) (done t s₁ r) w)) in
+    ap (λ (x : State). record { outcome = r; state = x }) (back-stays h w e refusals.Form z) ∙ ap (λ (a : Either Answer Refusal). record { outcome = a; state = whole b s }) z
+    ∙ ap (λ (x : Bool). refusal (whole b s) (cond x refusals.Form refusals.OutOfRange)) (sym k)
+back-serves b t t' s s₁ (some q) r h k w e = step-serves (whole b s) q (done t' s₁ r) k (back_step h w e) (back-stays h w e)
 
 -- ---- A request that stores no type: what it leaves is what it would give back.
-pub kept-serves : (b t : List ℕ) (s : Rest) (q : Option Request) (r : Served) → Sound (whole b s) → So (system_accepted (raw_state (whole b s)))
-    → Step (whole b s) (serve_asked (system_in (whole b s)) q) (done t r) → t ≡ b → ServesAsked (whole b s) q (done t r)
-kept-serves b t s q r h k w e = back-serves b t t s q r h k w (go (is_accepted r.outcome))
+pub kept-serves : (b t : List ℕ) (s s₁ : Rest) (q : Option Request) (r : Either Answer Refusal) → Sound (whole b s) → So (system_accepted (raw_state (whole b s)))
+    → Step (whole b s) (serve_asked (system_in (whole b s)) q) (done t s₁ r) → t ≡ b → ServesAsked (whole b s) q (done t s₁ r)
+kept-serves b t s s₁ q r h k w e = back-serves b t t s s₁ q r h k w (go (is_accepted r))
   where
     go : (x : Bool) → t ≡ cond x t b
     go true = refl
     go false = e
-
--- nothing is known where something may be sent
-pub known-open : (s : State) (m : Res (System × Result)) (p : Plan) → p.refusal ≡ 0 → p.sends ≡ true → Known s m p
-known-open s m p z t = record { stops = λ y. absurd (y z); fits = λ y u. never (sym u ∙ t); adds = λ y u. never (sym u ∙ t) }
-
-pub known-call : (s : State) (vs : List ℤ) (m m' : Res (System × Result)) → m ≡ m' → (p : Plan) → Planned s vs m' p → Known s m p
-known-call s vs m m' e p h = record { stops = λ z. e ∙ h.stops z; fits = λ z y. h.fits z; adds = λ z y. e ∙ h.adds z y }
 
 -- ---- a refusal with 2
 module _ (s : State) (q : Request) (no : system_accepted (raw_state s) ≡ false) where
@@ -153,7 +147,7 @@ module _ (s : State) (q : Request) (no : system_accepted (raw_state s) ≡ false
       sym (ap (λ (xs : List Ty). take (s.counts.types * type_size) s.types ++ flatten (map bytes_of xs)) (drop_of_length-le (system_in s).table.types e)
       ∙ append-nil (take (s.counts.types * type_size) s.types))
 
-  two-serves : Serves s q (refusal s out_of_range)
+  two-serves : Serves s q (refusal s refusals.OutOfRange)
   two-serves = record {
     returns = record {
       outcome = ap (λ x. x.outcome) (sym refuses-out-of-range);
@@ -169,8 +163,8 @@ module _ (s : State) (q : Request) (no : system_accepted (raw_state s) ≡ false
   }
 
 -- of a request or of none
-pub refused-serves : (s : State) (q : Option Request) → system_accepted (raw_state s) ≡ false → (r : Done) → r ≡ refusal s out_of_range → ServesAsked s q r
-refused-serves s none h r e = e ∙ ap (λ (x : Bool). refusal s (cond x form out_of_range)) (sym h)
+pub refused-serves : (s : State) (q : Option Request) → system_accepted (raw_state s) ≡ false → (r : Done) → r ≡ refusal s refusals.OutOfRange → ServesAsked s q r
+refused-serves s none h r e = e ∙ ap (λ (x : Bool). refusal s (cond x refusals.Form refusals.OutOfRange)) (sym h)
 refused-serves s (some q) h r e = subst (λ x. Serves s q x) (sym e) (two-serves s q h)
 
 -- ---- what `Serves` says in the words of the model: the answer, and the meaning of the state that comes back
@@ -189,7 +183,7 @@ module _ (s : State) (q : Request) (r : Done) (w : Serves s q r) where
     where
       go : (b : Bool) → system_accepted (raw_state s) ≡ b → system_in r.state ≡ after (system_in s) (need b out_of_range λ _. serve (system_in s) q)
       go true e = returns-means (raw_state s) q (outcome_of r.outcome) (raw_state r.state) w.returns e
-      go false e = ap system_in (w.stays out_of_range (refused-answer r.outcome out_of_range (w.returns.outcome ∙ ap (λ x. x.outcome) (refuses-out-of-range s q e))))
+      go false e = ap system_in (refused-stays r.outcome w.stays out_of_range (w.returns.outcome ∙ ap (λ x. x.outcome) (refuses-out-of-range s q e)))
 
   -- every record counted before is stored as it was, a call's but for its flag (Q15)
   pub serves-before : Before (raw_state s) (raw_state r.state)

@@ -25,11 +25,11 @@ use Rattle.table_record.specs.Layout.{type_size}
 use Rattle.law_table.proofs.Whole.{record-shaped}
 use Rattle.derive_sub_sup.specs.Link.{record_at}
 use Rattle.derive_sub_sup.proofs.Bytes.{record_same, exact-take}
-use Rattle.state_record.specs.declared.Cells.{Cells}
-use Rattle.state_record.specs.declared.Places.{Places}
-use Rattle.state_record.specs.declared.Calls.{Calls}
+use Rattle.state_record.specs.Counted.{Cells}
+use Rattle.state_record.specs.Counted.{Places}
+use Rattle.state_record.specs.Counted.{Calls}
 use Rattle.state_record.specs.Whole.{Whole as State}
-use Rattle.state_record.specs.View.{cell_of, place_of, call_of, blank_cell, blank_place, blank_call, cells_in, places_in, calls_in, raw_state, system_in}
+use Rattle.state_record.specs.View.{seen, cell_of, place_of, call_of, blank_cell, blank_place, blank_call, cells_in, places_in, calls_in, raw_state, system_in}
 use Rattle.state_record.proofs.Laws.{cells-length, places-length, calls-length, system-is}
 use Rattle.request_common.specs.Served.{Stored}
 
@@ -41,15 +41,15 @@ seen-counted f g h e d zero i l = refl
 seen-counted f g h e d (suc n) i l = rw (get_or-map h l i d, e (get_or l i d), seen-counted f g h e d n (suc i) l)
 
 cells-counted : (cs : Cells) → first_of cs.count no_cell (map cell_of cs.list) ≡ cells_in cs
-unfolding cells_in
+unfolding seen
 cells-counted cs = from-same _ _ cs.count 0 (λ k p q. get_or-map cell_of cs.list k blank_cell)
 
 places-counted : (ps : Places) → first_of ps.count no_raw_place (map (λ p. place_record (place_of p.place)) ps.list) ≡ map place_record (places_in ps)
-unfolding places_in
+unfolding seen
 places-counted ps = seen-counted (λ p. place_of p.place) place_record (λ p. place_record (place_of p.place)) (λ p. refl) blank_place ps.count 0 ps.list
 
 calls-counted : (js : Calls) → first_of js.count no_raw_call (map (λ c. call_record (call_of c)) js.list) ≡ map call_record (calls_in js)
-unfolding calls_in
+unfolding seen
 calls-counted js = seen-counted call_of call_record (λ c. call_record (call_of c)) (λ c. refl) blank_call js.count 0 js.list
 
 -- a record whose bytes are those that stand for a type is that type's

@@ -1,5 +1,5 @@
 -- What an entry point promises of every state and all numbers: result, counts and counted records are the definition's.
-use Rattle.std.specs.Prelude.{◌≡◌, cond, ℕ, ◌*◌, take, drop}
+use Rattle.std.specs.Prelude.{◌≡◌, cond, Err, ℕ, ◌*◌, take, drop}
 use mathlib.Core.List.{◌++◌, map, flatten}
 use Rattle.std.proofs.Math.Option.{Option, none, some}
 use Rattle.spec_model.specs.Basics.{Res, need}
@@ -7,12 +7,13 @@ use Rattle.spec_model.specs.Table.{size}
 use Rattle.spec_model.specs.Requests.{System, Request, Result, serve, after}
 use Rattle.spec_model.specs.Check.{system_accepted}
 use Rattle.spec_model.specs.Handed.{Returns}
-use Rattle.spec_model.specs.Refusals.{form, out_of_range}
+use Rattle.spec_model.specs.Refusals.{out_of_range}
+use Rattle.base_numbers.specs.declared.refusal.Refusal.{Refusal}
+use Rattle.base_numbers.specs.declared.refusal.Refusal.TheVariants.{Form, OutOfRange}
 use Rattle.table_record.specs.Layout.{with_count, type_size}
 use Rattle.table_record.specs.Records.{bytes_of}
 use Rattle.state_record.specs.Whole.{Whole as State}
 use Rattle.state_record.specs.Meaning.{raw_state, system_in}
-use Rattle.request_common.specs.declared.Outcome.TheVariants.{Refused}
 use Rattle.request_common.specs.Outcome.{Done as Served}
 use Rattle.request_common.specs.Outcome.{outcome_of, refusal_of}
 
@@ -29,7 +30,7 @@ pub record Serves (s : State) (q : Request) (r : Served) : Type 0 where
   -- the outcome is the definition's, and so is what is counted of table, cells, places and calls: how many, and each record (Q14, Q15)
   pub returns : Returns (raw_state s) q (outcome_of r.outcome) (raw_state r.state)
   -- refused, 2 included, the state that comes back is the one handed in, every byte of it (Q14)
-  pub stays : (e : ℕ) → r.outcome ≡ Refused e → r.state ≡ s
+  pub stays : (e : Refusal) → r.outcome ≡ Err e → r.state ≡ s
   -- Every byte of the links stays, and every count of the table but that of its types.
   pub links : r.state.links ≡ s.links
   pub counts : r.state.counts ≡ with_count s.counts (size (leaves s q).table)
@@ -38,5 +39,5 @@ pub record Serves (s : State) (q : Request) (r : Served) : Type 0 where
 
 -- The same of a code and its operands, which may name no request: that is refused with 1, behind 2, and the state that comes back is the one handed in, every byte of it (U6).
 abbrev pub ServesAsked : State → Option Request → Served → Type 0
-ServesAsked s none r = r ≡ refusal_of s (cond (system_accepted (raw_state s)) form out_of_range)
+ServesAsked s none r = r ≡ refusal_of s (cond (system_accepted (raw_state s)) Form OutOfRange)
 ServesAsked s (some q) r = Serves s q r

@@ -15,10 +15,10 @@ use Rattle.request_serve.proofs.Laws.{kept-serves}
 use Rattle.request_serve.proofs.serve_nothing.Goals as goal
 
 pub returns : goal.returns
-returns c = let a = c.args in let b = a.types.now in let s = whole b a.s in let w = a.ops.now in
+returns c = let a = c.args in let b = a.types.now in let s = whole b a.s.now in let w = a.ops.now in
     let f₀ : SFits w64 (get_or w 0 (pos 0)) = search rules in
     let f₁ : SFits w64 (get_or w 1 (pos 0)) = search rules in
-    kept-serves b c.answer_step.new.types a.s (by_code 3 w) c.answer_step.result c.requires.0 c.requires.1
+    kept-serves b c.answer_step.new.types a.s.now c.answer_step.new.s (by_code 3 w) c.answer_step.result c.requires.0 c.requires.1
     (step-as (sym (nothing_is (system_in s) w c.requires.2))
     (rw (to_z-of_z f₀, to_z-of_z f₁) at c.answer_step.ensures.0))
     c.answer_step.ensures.1

@@ -13,6 +13,6 @@ serve_coded-r-requires c = c.requires.0
 pub returns : goal.returns
 returns c =
     let a = c.args in let b = a.types.now in
-    back-serves b c.serve_coded-r.new.types c.give_back.new.types a.s (by_code a.code a.ops.now) c.serve_coded-r.result c.requires.0
+    back-serves b c.serve_coded-r.new.types c.give_back.new.types a.s.now c.serve_coded-r.new.s (by_code a.code a.ops.now) c.serve_coded-r.result c.requires.0
     c.requires.1
-    c.serve_coded-r.ensures (c.give_back.ensures ∙ ap (λ (x : List ℕ). given_back x c.serve_coded-r.new.types c.serve_coded-r.result.outcome) c.copied-old.ensures.0)
+    c.serve_coded-r.ensures (c.give_back.ensures ∙ ap (λ (x : List ℕ). given_back x c.serve_coded-r.new.types c.serve_coded-r.result) c.copied-old.ensures.0)
