@@ -23,9 +23,7 @@ use Rattle.text_read.specs.declared.Numbers.{Numbers}
 use Rattle.text_read.specs.View.{items_of, numbers_of, RestEmpty, max_numbers}
 use Rattle.text_read.proofs.Laws.{from-here, at-end}
 use Rattle.std.specs.List.{list_all}
-use Rattle.table_record.specs.Store.{raw_links}
-use Rattle.table_record.specs.declared.Links.{Links}
-use Rattle.sheet_read_line.specs.View.{broader_in, LinksExact}
+use Rattle.sheet_read_line.specs.View.{LinksExact}
 
 -- every line kind refuses an empty line
 pub rep-empty : rep_line [] ≡ refuse form

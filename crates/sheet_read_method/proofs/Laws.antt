@@ -1,9 +1,9 @@
 -- Laws over plain values for an `m=` line: signatures and methods. The proofs of the functions cite them.
-use Rattle.std.specs.Prelude.{None, Some, IfSome}
+use Rattle.std.specs.Prelude.{Some, IfSome}
 use Rattle.std.specs.Prelude.{Option as Optionˢ}
 use mathlib.Core.Path.{◌≡◌, refl, sym, ap, ◌∙◌, subst}
 use mathlib.Core.Bool.{Bool, true, false, ◌&&◌, cond}
-use mathlib.Core.List.{List, [], ◌∷◌}
+use mathlib.Core.List.{List, []}
 use mathlib.Core.Option.{Option, none, some}
 use Prim.Native.Nat.{ℕ, zero, suc, ◌+◌, ◌≤◌, ◌<◌}
 use native.Mathlib.Omega.{arith}
@@ -12,18 +12,17 @@ use lib.Dec.{eqb}
 use lib.ListN.{length, get_or, take, drop}
 use borrow.Author.Tests.{lt-ltb, le-ltb, eq-eqb, ne_eqb}
 use Rattle.spec_model.specs.Basics.{Res, refuse, ok, try, need, all, unless_missing}
-use Rattle.spec_model.specs.Table.{State, denied, optional, avail, unavail, Method, max_arguments, permit, bare}
+use Rattle.spec_model.specs.Table.{State, optional, avail, Method, max_arguments, permit}
 use Rattle.spec_model.specs.Check.{state_of, answer_of, method_of}
 use Rattle.spec_model.proofs.Rules.{never}
 use Rattle.spec_model.specs.Refusals.{form, out_of_range}
-use Rattle.spec_sheet.specs.Lines.{starts, same}
+use Rattle.spec_sheet.specs.Lines.{starts}
 use Rattle.spec_sheet.specs.Numbers.{Scan, fail, took, bind_scan, whole, number, numbers}
 use Rattle.spec_sheet.specs.Text.{state_text}
 use Rattle.spec_sheet.specs.Sheet.{closing, arguments, answer, below, signature, method_line}
 use Rattle.text_read.specs.declared.Numbers.{Numbers}
-use Rattle.text_read.specs.View.{items_of, numbers_of, RestEmpty, max_numbers}
 use Rattle.text_read.proofs.Laws.{from-here, at-end}
-use Rattle.sheet_read_method.specs.View.{ArgsWithin, bare_line, Opens}
+use Rattle.sheet_read_method.specs.View.{ArgsWithin, bare_line}
 
 -- an empty line is refused
 pub method-empty : (n : ℕ) → method_line n [] ≡ refuse form
@@ -171,10 +170,6 @@ signed-means s count answer a k args xs p e q f =
     ∙ ap (λ (z : List ℕ). let m : Method = record { state = state_of s; args = z; answer = answer_of answer } in m) q
     ∙ ap (λ (z : ℕ). let m : Method = record { state = state_of s; args = xs; answer = answer_of z } in m) f
 
-pub unsigned-means : (s count answer : ℕ) (args : List ℕ) → permit (state_of s) ≡ false → method_of (record { state = s; count = count; args = args; answer = answer }) ≡ bare (state_of s)
-unfolding means
-unsigned-means s count answer args p = ap (λ z. means (state_of s) z count args answer) p
-
 -- a state that permits has a code
 pub permits-below : (s : ℕ) → permit (state_of s) ≡ true → s < 4
 permits-below zero p = never p
@@ -203,33 +198,3 @@ module _ (n : ℕ) (l : List ℕ) where
     pub method-bare : starts (state_text optional) l ≡ false → bare_line l ≡ method_line n l
     unfolding after-avail
     method-bare e = ap (λ z. cond z (signature n optional (drop 11 l)) (bare_line l)) (sym e) ∙ not-avail
-
--- by the case of its beginning
-pub signed-opens : (l : List ℕ) (o : Optionˢ (ℕ × ℕ)) (p : ℕ × ℕ) → o ≡ Some p → Opens l o
-    → (p.1 ≤ length l) × (permit (state_of p.0) ≡ true) × ((n : ℕ) → signature n (state_of p.0) (drop p.1 l) ≡ method_line n l)
-signed-opens l o p e h = subst (Opens l) e h
-
-pub other-opens : (l : List ℕ) (o : Optionˢ (ℕ × ℕ)) → o ≡ None → Opens l o → (n : ℕ) → bare_line l ≡ method_line n l
-other-opens l o e h = subst (Opens l) e h
-
--- one without a signature
-module _ (l : List ℕ) where
-  not-denied : Res Method
-  not-denied = cond (same (state_text unavail) l) (ok (bare unavail)) (refuse form)
-
-  pub bare-denied : same (state_text denied) l ≡ true → ok (bare denied) ≡ bare_line l
-  unfolding not-denied
-  bare-denied e = ap (λ z. cond z (ok (bare denied)) not-denied) (sym e)
-
-  module _ (d : same (state_text denied) l ≡ false) where
-    past-denied : not-denied ≡ bare_line l
-    unfolding not-denied
-    past-denied = ap (λ z. cond z (ok (bare denied)) not-denied) (sym d)
-
-    pub bare-unavail : same (state_text unavail) l ≡ true → ok (bare unavail) ≡ bare_line l
-    unfolding not-denied
-    bare-unavail e = ap (λ z. cond z (ok (bare unavail)) (refuse form)) (sym e) ∙ past-denied
-
-    pub bare-none : same (state_text unavail) l ≡ false → refuse form ≡ bare_line l
-    unfolding not-denied
-    bare-none e = ap (λ z. cond z (ok (bare unavail)) (refuse form)) (sym e) ∙ past-denied

@@ -63,14 +63,6 @@ module _ (m n i : ℕ) (x : RawType) (h : i < n) where
       ∙ ap (λ z. sheet_type (rep_of 0) c z (from m 0 (λ j. method_of (get_or x.methods j no_raw_method)))) (one-bit o)
       ∙ ap (sheet_type (rep_of 0) c o) f
 
-  pub number-means : (r c : ℕ) → 0 < r → x.rep ≡ r → x.cat ≡ c → type_of m n i x ≡ sheet_type (rep_of r) c false []
-  unfolding meaning
-  number-means r c k p q =
-      ap (λ z. meaning (rep_of x.rep) (is_ref (rep_of x.rep)) x.cat x.own (from m 0 (λ j. method_of (get_or x.methods j no_raw_method))) z x) (lt-ltb i n h)
-      ∙ ap (λ (z : ℕ). meaning (rep_of z) (is_ref (rep_of z)) x.cat x.own (from m 0 (λ j. method_of (get_or x.methods j no_raw_method))) true x) p
-      ∙ ap (λ z. meaning (rep_of r) z x.cat x.own (from m 0 (λ j. method_of (get_or x.methods j no_raw_method))) true x) (number-rep r (λ z. omega arith))
-      ∙ ap (λ (z : ℕ). sheet_type (rep_of r) z false []) q
-
 -- One type more.
 pub types-none : (m n : ℕ) (rs : List RawType) → types_to m n 0 rs ≡ []
 unfolding types_to from

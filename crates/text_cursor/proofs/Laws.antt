@@ -2,9 +2,8 @@
 use mathlib.Core.Path.{◌≡◌, refl, sym, ap, ◌∙◌, subst}
 use mathlib.Core.Bool.{true, false, So, cond}
 use mathlib.Core.List.{List, [], ◌∷◌, ◌++◌}
-use Prim.Native.Nat.{ℕ, zero, suc, min, ◌+◌, ◌-◌, ◌≤◌, ◌<◌}
+use Prim.Native.Nat.{ℕ, suc, ◌+◌, ◌-◌, ◌≤◌, ◌<◌}
 use native.Mathlib.Omega.{arith}
-use native.Mathlib.Nat.{min-eq_right}
 use native.Mathlib.Numerals.{add-one}
 use lib.Dec.{eqb}
 use lib.ListN.{length, get_or, take, drop, length-drop, length-append, take-append-drop}
@@ -40,13 +39,6 @@ pub clear-more : (s : List ℕ) (at i j : ℕ) → j ≡ i + 1 → i < length s 
 clear-more s at i j e k n c =
     let h = c.after in
     record { after = omega arith; clear = subst (λ z. So (clean (take (z - at) (drop at s)))) (sym e) (clean-more s at i h k n c.clear) }
-
--- below this place four bytes stand
-pub last-four : (n r : ℕ) → r ≡ min n 3 → n - r ≤ n - 3
-last-four zero r e = omega arith
-last-four (suc zero) r e = let k : r ≡ 1 = e in omega arith
-last-four (suc (suc zero)) r e = let k : r ≡ 2 = e in omega arith
-last-four (suc (suc (suc n))) r e = let k : r ≡ 3 = e ∙ min-eq_right (omega arith) in omega arith
 
 -- what is left has no LF
 split-cut : (b : ℕ) (l : List ℕ) → So (clean (b ∷ l)) → split (b ∷ l) ≡ cut (b ∷ l) ∷ []

@@ -1,9 +1,9 @@
 -- Laws over plain values: what a byte more means for a word, a decimal and a list of numbers, and what a line that is read means. The proofs of the functions cite them.
-use Rattle.std.specs.Prelude.{Option, Some, None, Result, Ok, Err, IfOk, IfSome}
+use Rattle.std.specs.Prelude.{Option, Some, None, Result, Ok, Err, IfSome}
 use mathlib.Core.Path.{◌≡◌, refl, sym, ap, ◌∙◌, subst}
 use mathlib.Core.Bool.{Bool, true, false, ◌&&◌, cond}
 use mathlib.Core.List.{List, [], ◌∷◌, ◌++◌}
-use Prim.Native.Nat.{ℕ, zero, suc, ◌+◌, ◌-◌, ◌*◌, ◌≤◌, ◌<◌}
+use Prim.Native.Nat.{ℕ, suc, ◌+◌, ◌-◌, ◌*◌, ◌≤◌, ◌<◌}
 use native.Mathlib.Omega.{arith}
 use native.Mathlib.Numerals.{add-one}
 use lib.Dec.{eqb, leb, eqb-suc-suc}
@@ -14,15 +14,14 @@ use borrow.Author.Tests.{le-leb, lt-leb, eq-eqb, ne_eqb}
 use Rattle.spec_model.specs.Basics.{Res, refuse, ok, try, need}
 use Rattle.spec_model.specs.Table.{between}
 use Rattle.spec_model.specs.Refusals.{form, out_of_range}
-use Rattle.spec_sheet.specs.Lines.{Row, row, cut, split, Reader, bind, follow, refused, got, line, line_at, first_line, starts, same, keyed}
+use Rattle.spec_sheet.specs.Lines.{Row, row, cut, split, refused, got, line, line_at, first_line, starts, same, keyed}
 use Rattle.spec_sheet.specs.Numbers.{Scan, fail, took, bind_scan, whole, is_digit, top, limit, digits, number, comma, numbers}
 use Rattle.spec_sheet.specs.Sheet.{number_line}
-use Rattle.spec_model.proofs.Rules.{never}
 use Rattle.spec_sheet.proofs.Steps.{refuse-ok}
 use Rattle.spec_sheet.proofs.Lines.{starts-sound}
 use Rattle.base_numbers.specs.Refusal.{number_of, res_by}
 use Rattle.base_numbers.specs.declared.refusal.Refusal.{Refusal}
-use Rattle.text_read.specs.View.{scan_by, scan_numbers, ScanWithin, reading_by, placed_by, items_of, numbers_of, RestEmpty, NumbersWithin, no_numbers, max_numbers}
+use Rattle.text_read.specs.View.{scan_by, scan_numbers, ScanWithin, reading_by, placed_by, items_of, numbers_of, RestEmpty, NumbersWithin, max_numbers}
 use Rattle.text_read.specs.declared.Numbers.{Numbers}
 use Rattle.text_read.specs.declared.Malformed.{Malformed}
 use Rattle.text_cursor.specs.declared.Cursor.{Cursor}
@@ -164,13 +163,6 @@ module _ (t r : Numbers) (n : ℕ) (few : t.count < max_numbers) (items : items_
   more-empty h k e =
       ap (λ z. get_or z k 0) items ∙ get_or-set_other (items_of t) t.count k n 0 (λ q. let s : k ≡ t.count = q in omega arith) ∙ h k (omega arith)
 
-pub none-empty : (next : ℕ) → RestEmpty (no_numbers next)
-none-empty next zero h = refl
-none-empty next (suc zero) h = refl
-none-empty next (suc (suc zero)) h = refl
-none-empty next (suc (suc (suc zero))) h = refl
-none-empty next (suc (suc (suc (suc k)))) h = refl
-
 -- A line of a key and a number.
 module _ (key l : List ℕ) (low high : ℕ) where
   ranged : ℕ → Res ℕ
@@ -247,19 +239,6 @@ module _ {T A : Type 0} (g : T → A) (f : List ℕ → Res A) (empty : f [] ≡
       → reading_by g s r ≡ line f c.at (split (drop c.at s))
   line_read (Err e) r q w = ap (reading_by g s) w ∙ line_refused f empty s c.at d.at p l h (number_of e) q
   line_read (Ok x) r q w = ap (reading_by g s) w ∙ line-accepted f empty s c.at d.at p l h (g x) q
-
--- what is so of a line's value is so of it with the cursor
-pub if_placed : {T : Type 0} (P : T → Type 0) (c d : Cursor) (v : Result T Refusal) (r : Result (T × Cursor) Malformed) → IfOk v P → r ≡ placed_by v c d → IfOk r (λ x. P x.0)
-if_placed P c d (Err e) r h w = subst (λ z. IfOk z (λ x. P x.0)) (sym w) h
-if_placed P c d (Ok x) r h w = subst (λ z. IfOk z (λ x. P x.0)) (sym w) h
-
--- A line read and then others, as `?` puts them together: a refusal of the first is that of all, and what it gives goes on behind it.
-module _ {T A B : Type 0} (f : T → A) (s : List ℕ) (r : Result (T × Cursor) Malformed) (p : Reader A) (k : A → Reader B) (at : ℕ) (rs : List Row) (is : reading_by f s r ≡ p at rs) where
-  pub then_refused : (e : Malformed) → r ≡ Err e → refused (number_of e.refusal) e.at ≡ bind p k at rs
-  then_refused e w = ap (λ z. follow z k) (ap (reading_by f s) (sym w) ∙ is)
-
-  pub then_read : (x : T) (c : Cursor) → r ≡ Ok (x, c) → k (f x) c.at (split (drop c.at s)) ≡ bind p k at rs
-  then_read x c w = ap (λ z. follow z k) (ap (reading_by f s) (sym w) ∙ is)
 
 pub number-empty : (key : List ℕ) (low high : ℕ) → number_line key low high [] ≡ refuse form
 unfolding number_line keyed starts number

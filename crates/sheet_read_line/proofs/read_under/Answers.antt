@@ -1,14 +1,13 @@
 -- Key, numbers and nothing behind them (1), then the last category (2), then the category's own number (3): every return is the definition's next case.
 use mathlib.Core.Bool.{not}
-use mathlib.Core.Path.{◌≡◌, ap, sym, ◌∙◌, subst}
+use mathlib.Core.Path.{◌≡◌, ap, sym, ◌∙◌}
 use native.Mathlib.Omega.{arith}
 use Rattle.std.proofs.Common.{rules}
-use Rattle.std.specs.Prelude.{Err, Some, IfSome}
+use Rattle.std.specs.Prelude.{Err, Some}
 use borrow.Author.Tests.{not-true}
 use Rattle.spec_model.specs.Basics.{ok}
 use Rattle.base_numbers.specs.Refusal.{res_by}
 use Rattle.base_numbers.specs.declared.refusal.Refusal.TheVariants.{Form}
-use Rattle.text_read.specs.View.{numbers_of}
 use Rattle.text_read.proofs.Laws.{starts-length, numbers-wrong, numbers-right, numbers-within}
 use Rattle.sheet_read_line.specs.View.{broader_in}
 use Rattle.sheet_read_line.proofs.Laws.{under-key, under-wrong, under-behind, under-above, under-high, under-good, item-small, links-are}

@@ -1,7 +1,6 @@
 -- Nothing between the brackets, or numbers and the bracket that closes them: the definition's cases.
-use mathlib.Core.List.{[]}
-use mathlib.Core.Path.{◌≡◌, ap, sym, ◌∙◌}
-use Prim.Native.Nat.{◌+◌, ◌<◌}
+use mathlib.Core.Path.{◌≡◌, ap, ◌∙◌}
+use Prim.Native.Nat.{◌<◌}
 use native.Mathlib.Omega.{arith}
 use lib.ListN.{length, drop}
 use Rattle.std.proofs.Common.{rules}

@@ -2,7 +2,6 @@
 use mathlib.Core.Bool.{not}
 use mathlib.Core.Path.{◌≡◌, refl, ap, sym, ◌∙◌}
 use native.Mathlib.Omega.{arith}
-use lib.ListN.{drop}
 use Rattle.std.proofs.Common.{rules}
 use Rattle.std.specs.Prelude.{Err, Some}
 use borrow.Author.Tests.{not-true}

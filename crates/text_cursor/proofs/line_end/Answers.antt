@@ -1,11 +1,10 @@
 use Prim.Native.Nat.{◌+◌}
 use native.Mathlib.Omega.{arith}
-use lib.ListN.{length}
-use Rattle.text_cursor.proofs.Laws.{clear_none, clear-more, last-four}
+use Rattle.text_cursor.proofs.Laws.{clear_none, clear-more}
 use Rattle.text_cursor.proofs.line_end.Goals as goal
 
 pub loop-e-init : goal.loop-e-init
-loop-e-init c = (clear_none c.args.s.now c.args.at, last-four (length c.args.s.now) c.least.result c.least.ensures.0)
+loop-e-init c = (clear_none c.args.s.now c.args.at, omega arith)
 
 pub returns-then-s-e-eq10 : goal.returns-then-s-e-eq10
 returns-then-s-e-eq10 c = let l = c.loop-e in

@@ -3,7 +3,7 @@ use mathlib.Core.Bool.{not}
 use mathlib.Core.Path.{ap, sym, refl, ◌∙◌}
 use Prim.Native.Nat.{◌+◌, ◌*◌}
 use native.Mathlib.Omega.{arith}
-use borrow.Author.Tests.{not-true, not-false}
+use borrow.Author.Tests.{not-true}
 use Rattle.spec_sheet.specs.Numbers.{limit}
 use Rattle.text_read.proofs.Laws.{digits-stop, digits_more, digits-end}
 use Rattle.text_read.proofs.digits_at.Goals as goal

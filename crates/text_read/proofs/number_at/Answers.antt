@@ -1,9 +1,9 @@
 -- A number by its first byte: none, a 0, which is whole (S3), or a digit, behind which the others are read.
 use mathlib.Core.Bool.{not}
-use mathlib.Core.Path.{ap, sym, refl, ◌≡◌, ◌∙◌}
-use Prim.Native.Nat.{◌+◌, ◌<◌, ◌-◌}
+use mathlib.Core.Path.{ap, sym, refl, ◌∙◌}
+use Prim.Native.Nat.{◌+◌, ◌<◌}
 use native.Mathlib.Omega.{arith}
-use lib.ListN.{length, get_or, drop}
+use lib.ListN.{length, drop}
 use borrow.Author.Tests.{not-true}
 use Rattle.spec_sheet.specs.Numbers.{digits}
 use Rattle.text_read.proofs.Laws.{number-none, number-zero, number-other, number_more}

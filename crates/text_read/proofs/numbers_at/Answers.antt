@@ -1,11 +1,11 @@
-use mathlib.Core.Path.{◌≡◌, ap, ◌∙◌, sym}
-use Prim.Native.Nat.{◌+◌, ◌<◌, ◌-◌}
+use mathlib.Core.Path.{◌≡◌, ap, ◌∙◌}
+use Prim.Native.Nat.{◌+◌, ◌-◌}
 use native.Mathlib.Omega.{arith}
 use lib.ListN.{drop}
 use Rattle.std.proofs.Common.{rules}
 use Rattle.std.specs.Prelude.{Some, None}
 use Rattle.spec_sheet.specs.Numbers.{numbers, took}
-use Rattle.text_read.specs.View.{numbers_of, scan_numbers, max_numbers}
+use Rattle.text_read.specs.View.{numbers_of, scan_numbers}
 use Rattle.text_read.proofs.Laws.{scan-wrong, scan-right, right-within, numbers-many, numbers-fail, numbers-end, numbers-other, numbers-comma, more_numbers, more-empty}
 use Rattle.text_read.proofs.numbers_at.Goals as goal
 use Rattle.text_read.proofs.numbers_at.Goals.{then-next-l-via-then-next-l, then-next-l-via-else-next-l+then-l-next-ne44}
