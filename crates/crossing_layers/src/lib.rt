@@ -41,8 +41,8 @@ fn carry_one(
         to: usize::from(to),
         receiver: r,
     };
-    crossing_one::cross(types, links, c.with_types(x.types), x.places, next)
-        .map_err(|e| at_layer(i, e))
+    let y = crossing_one::cross(types, links, c.with_types(x.types), x.places, next);
+    y.map_err(|e| at_layer(i, e))
 }
 
 // A reference of static type s that leads to place p crosses to each target in turn, received by r (C11, A8).

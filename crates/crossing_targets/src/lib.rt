@@ -18,6 +18,7 @@ use state_record::State;
 use table_record::{Counts, Head, Method, TYPE_BYTES};
 
 // The types whose signatures a value meets: that of the called cell, and then the layers of its place (C9).
+// Kept: a rule (no heap, fixed memory; so is the count of `Targets`).
 #[derive(Clone, Copy)]
 pub struct CallLayers {
     pub list: [u8; CallLayers::MAX],

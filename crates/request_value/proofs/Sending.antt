@@ -45,11 +45,6 @@ use Rattle.request_value.specs.Sent.{send_argument, all_sent, Went, Sent}
 use Rattle.request_common.specs.Back.{is_accepted}
 
 -- ---- Answers.
--- what goes on with the state of an accepted request alone
-pub goes_on : {A : Type 0} (a : Outcome) (s : System) (k : System → Res A) → is_accepted a ≡ true → try (served_with s (outcome_of a)) (λ x. k x.0) ≡ k s
-goes_on (Ok a) s k h = refl
-goes_on (Err e) s k h = never h
-
 -- a request that is not accepted is refused with some number
 pub only-refused : (P : Outcome → Type 0) → ((e : Refusal) → P (Err e)) → (a : Outcome) → is_accepted a ≡ false → P a
 only-refused P f (Ok a) h = never (sym h)
