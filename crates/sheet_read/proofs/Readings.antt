@@ -7,7 +7,6 @@ use Prim.Native.Nat.{ℕ, ◌+◌, ◌≤◌, ◌<◌}
 use lib.Dec.{eqb}
 use lib.ListN.{length, get_or, drop}
 use Rattle.spec_model.specs.Table.{Ty, Table, max_subjects, max_methods, max_categories, max_sheet_types}
-use Rattle.spec_model.specs.Check.{links_of}
 use Rattle.spec_model.specs.Refusals.{form, not_below}
 use Rattle.spec_sheet.specs.Lines.{bytes, Row, row, cut, push, split, Reading, refused, got, Reader, pure, line, follow, bind, times, end_of_input}
 use Rattle.spec_sheet.specs.Text.{newest_form}

@@ -24,7 +24,6 @@ use Rattle.law_table.proofs.Whole.{flat-length, bytes-long}
 use Rattle.table_record.proofs.Lists.{is-from, same_or}
 use Rattle.table_record.proofs.Tables.{types-add}
 use Rattle.table_record.proofs.Laws.{absent}
-use Rattle.table_record.proofs.Codes.{number-rep}
 use Rattle.table_record.specs.Layout.{type_size, types_size}
 use Rattle.spec_sheet.specs.Sheet.{sheet_type}
 use Rattle.sheet_read_type.specs.View.{method_is, MethodsExact}

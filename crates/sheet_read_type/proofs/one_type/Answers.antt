@@ -1,6 +1,5 @@
 -- The three lines of a type in turn (`step-no`, `step_ok`), then the members by the representation: the record that is stored means the definition's type, exactly.
 use mathlib.Core.Path.{◌≡◌, ap, ◌∙◌}
-use native.Mathlib.Omega.{arith}
 use lib.ListN.{drop}
 use Rattle.std.proofs.Common.{rules}
 use Rattle.std.specs.Prelude.{Ok, Err}
