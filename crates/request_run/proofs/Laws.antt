@@ -21,8 +21,11 @@ use Rattle.table_record.specs.Layout.{type_size}
 use Rattle.state_record.specs.Whole.{Whole as State}
 use Rattle.state_record.specs.View.{raw_state, system_in, with_types}
 use Rattle.state_record.specs.Sound.{Sound}
-use Rattle.request_common.specs.declared.Outcome.{Outcome}
-use Rattle.request_common.specs.declared.Outcome.TheVariants.{Refused, Pair, Number, Nothing}
+use Rattle.std.specs.Prelude.{Ok, Err, is_ok}
+use Rattle.std.specs.Prelude.{Result as Either}
+use Rattle.base_numbers.specs.declared.refusal.Refusal.{Refusal}
+use Rattle.base_numbers.specs.Refusal.{number_of}
+use Rattle.request_common.specs.declared.Answer.{Answer}
 use Rattle.request_common.specs.Served.{Done as Served}
 use Rattle.request_common.specs.Served.{outcome_of, Stored, Step}
 use Rattle.request_common.proofs.Laws.{stored-self, stored_on, system-kept}
@@ -38,6 +41,15 @@ use Rattle.request_words.proofs.Words.{request-at, words-next}
 use Rattle.request_run.specs.Requested.{run_asked, run_handed}
 use Rattle.request_run.specs.Ran.{Over as Ran, room, AllRefused, RanAs, Runs}
 use Rattle.request_run.proofs.Whole.{serve_each, each-is-run}
+
+-- what was taken, as the library asks it
+pub taken_is : (a : Either Answer Refusal) → is_ok a ≡ is_accepted a
+taken_is (Ok x) = refl
+taken_is (Err e) = refl
+
+-- no refusal has the number 0
+pub some_number : (e : Refusal) → 0 < number_of e
+some_number e = grind arith
 
 -- by the code: 4 is that of no request
 pub code_is : (code : ℤ) (ws : List ℤ) → by_code (index_of code 4) ws ≡ request code ws
@@ -188,17 +200,13 @@ module _ (s₀ : State) (ws old : List ℤ) where
         within = w';
       }) w
         where
-          still : (a : Outcome) → r.outcome ≡ a → AllRefused (outcome_of a ∷ on.0) → (is_accepted r.outcome ≡ false) × AllRefused on.0
-          still (Refused e) z h = (ap is_accepted z, h)
-          still (Pair m n) z h = absurd h
-          still (Number v) z h = absurd h
-          still Nothing z h = absurd h
+          still : (a : Either Answer Refusal) → r.outcome ≡ a → AllRefused (outcome_of a ∷ on.0) → (is_accepted r.outcome ≡ false) × AllRefused on.0
+          still (Err e) z h = (ap is_accepted z, h)
+          still (Ok x) z h = absurd h
 
-          still-there : (a : Outcome) → r.outcome ≡ a → is_accepted r.outcome ≡ false → r.state ≡ with_types s r.state.types
-          still-there (Refused e) z h = step.stays e z
-          still-there (Pair m n) z h = never (sym h ∙ ap is_accepted z)
-          still-there (Number v) z h = never (sym h ∙ ap is_accepted z)
-          still-there Nothing z h = never (sym h ∙ ap is_accepted z)
+          still-there : (a : Either Answer Refusal) → r.outcome ≡ a → is_accepted r.outcome ≡ false → r.state ≡ with_types s r.state.types
+          still-there (Err e) z h = step.stays e z
+          still-there (Ok x) z h = never (sym h ∙ ap is_accepted z)
 
           written : (o : Outcomeᵐ) → out ≡ sets cur (i * outcome_size) (words_of o) → sets out ((i + 1) * outcome_size) (outcome_words on.0) ≡ sets cur (i * outcome_size) (outcome_words (o ∷ on.0))
           written o z =

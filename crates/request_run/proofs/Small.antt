@@ -13,8 +13,11 @@ use Rattle.state_record.specs.View.{cells_in, system_in}
 use Rattle.state_record.specs.Sound.{Sound}
 use Rattle.state_record.proofs.Laws.{means-counted}
 use Rattle.state_record.proofs.Kept.{sound-few}
-use Rattle.request_common.specs.declared.Outcome.{Outcome}
-use Rattle.request_common.specs.declared.Outcome.TheVariants.{Refused, Pair, Number, Nothing}
+use Rattle.std.specs.Prelude.{Ok, Err}
+use Rattle.std.specs.Prelude.{Result as Either}
+use Rattle.base_numbers.specs.declared.refusal.Refusal.{Refusal}
+use Rattle.request_common.specs.declared.Answer.{Answer}
+use Rattle.request_common.specs.declared.Answer.TheVariants.{Pair, Number, Nothing}
 use Rattle.request_common.specs.Served.{Done as Served}
 use Rattle.request_common.specs.Served.{outcome_of, served_with, Step}
 use Rattle.request_common.proofs.Laws.{cells_are}
@@ -29,18 +32,18 @@ small-asked s (some q) = small-serve s q
 pub step_small : (s : State) (q : Option Request) (r : Served) → Sound s → Step s (serve_asked (system_in s) q) r → SmallOutcome r.outcome
 step_small s q r h w = go r.outcome (subst (Small (λ (x : System × Result). Named (system_in s) x.0 x.1)) (sym w.is) (small-asked (system_in s) q))
   where
-    go : (a : Outcome) → Small {A = System × Result} (λ x. Named (system_in s) x.0 x.1) (served_with (system_in r.state) (outcome_of a)) → SmallOutcome a
-    go (Refused e) k = omega (arith, k.1)
-    go (Pair a b) (inl k) =
+    go : (a : Either Answer Refusal) → Small {A = System × Result} (λ x. Named (system_in s) x.0 x.1) (served_with (system_in r.state) (outcome_of a)) → SmallOutcome a
+    go (Err e) k = tt
+    go (Ok (Pair a b)) (inl k) =
         let t : State = r.state in
         let n : length (system_in t).cells ≡ t.cells.count = (means-counted t).cells in
         let l : a < t.cells.count = omega (arith, n, k.0) in
         let p : (get_or (cells_in t.cells) a no_cell).place < t.places.count = (w.sound.cells a l).place in
         let e : (get_or (cells_in t.cells) a no_cell).place ≡ b = ap (λ (cs : List Cell). (get_or cs a no_cell).place) (sym (cells_are t)) ∙ k.1 in
         (omega (arith, l, w.sound.cell_count), omega (arith, p, e, w.sound.descending.count))
-    go (Pair a b) (inr k) =
+    go (Ok (Pair a b)) (inr k) =
         let n : length (system_in s).places ≡ s.places.count = (means-counted s).places in
         let m : length (system_in s).calls ≡ s.calls.count = (means-counted s).calls in
         (omega (arith, m, k.0, sound-few s h), omega (arith, n, k.1, h.descending.count))
-    go (Number v) k = tt
-    go Nothing k = tt
+    go (Ok (Number v)) k = tt
+    go (Ok Nothing) k = tt

@@ -1,27 +1,31 @@
 -- What a run stores and leaves.
-use Rattle.std.specs.Prelude.{◌≡◌, ℕ, ◌*◌, ◌/◌, ℤ, length, take, drop}
+use Rattle.std.specs.Prelude.{◌≡◌, Ok, Err, ℕ, ◌*◌, ◌/◌, ℤ, length, take, drop}
+use Rattle.std.specs.Prelude.{Result as Either}
 use mathlib.Core.List.{List, [], ◌∷◌, ◌++◌, map, flatten}
 use Rattle.std.proofs.lemmas.List.Edits.{sets}
 use Rattle.spec_model.specs.Basics.{Res, refuse, ok}
 use Rattle.spec_model.specs.Table.{size}
 use Rattle.spec_model.specs.Requests.{System, Outcome, got, refused}
 use Rattle.spec_model.specs.Handed.{counted, stored_from}
+use Rattle.base_numbers.specs.declared.refusal.Refusal.{Refusal}
+use Rattle.base_numbers.specs.Refusal.{number_of}
 use Rattle.table_record.specs.Layout.{with_count, type_size}
 use Rattle.table_record.specs.Records.{bytes_of}
+use Rattle.state_record.specs.declared.State.{State as Rest}
 use Rattle.state_record.specs.Whole.{Whole as State}
 use Rattle.state_record.specs.Whole.{whole}
 use Rattle.state_record.specs.Meaning.{raw_state}
 use Rattle.request_words.specs.Words.{outcome_size, outcome_words}
-use Rattle.request_run.specs.declared.Ran.{Ran}
 
--- how a run ended, with the whole state
+-- how a run ended: with the number of its refusal or 0, how many requests were served, and the whole state that is left
 pub record Over : Type 0 where
   pub refusal : ℕ
   pub served : ℕ
   pub state : State
 
-abbrev pub over : List ℕ → Ran → Over
-over b r = record { refusal = r.refusal; served = r.served; state = whole b r.state }
+abbrev pub over : List ℕ → Rest → Either ℕ Refusal → Over
+over b s (Ok n) = record { refusal = 0; served = n; state = whole b s }
+over b s (Err e) = record { refusal = number_of e; served = 0; state = whole b s }
 
 -- how many requests there is room for (U9)
 abbrev pub room : List ℤ → ℕ

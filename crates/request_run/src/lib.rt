@@ -14,132 +14,89 @@ ghost use Rattle.request_words.specs.Found.{asked_at};
 ghost use Rattle.request_run.specs.Requested.{run_asked, run_handed};
 ghost use Rattle.request_run.specs.Ran.{room, over, Runs};
 
-use base_numbers::{index_of, refusal};
+use base_numbers::index_of;
+use base_numbers::refusal::Refusal;
 use request_by_code::serve_coded;
-use request_common::{Served, copied, refused};
+use request_common::{Answer, copied};
 use request_operands::CODES;
-use request_words::{next, operands, put_outcome};
+use request_words::{OUTCOME, next, operands, put_outcome};
 use state_record::State;
 use table_record::TYPE_BYTES;
 
-// How a run ended: 2 or 0, how many requests were served, and the state.
-#[derive(Clone, Copy)]
-pub struct Ran {
-    pub refusal: usize,
-    pub served: usize,
-    pub state: State,
-}
-
-// The words of an outcome (U8).
-impl Ran {
-    pub const WORDS: usize = 4;
-}
-
 // The request of a code as a word and its operands (U6).
-fn serve(types: &mut [u8; TYPE_BYTES], s: State, code: i64, ops: &[i64]) -> Served
-    requires { Sound (whole types.old s) }
-    ensures { Step (whole types.old s) (serve_asked (system_in (whole types.old s)) (request code ops.now))
-        (done types.new result) }
+fn serve(
+    types: &mut [u8; TYPE_BYTES],
+    s: &mut State,
+    code: i64,
+    ops: &[i64],
+) -> Result<Answer, Refusal>
+    requires { Sound (whole types.old s.old) }
+    ensures { Step (whole types.old s.old) (serve_asked (system_in (whole types.old s.old)) (request code ops.now))
+        (done types.new s.new result) }
 {
-    let k = index_of(code, CODES);
-    serve_coded(types, s, k, ops)
+    serve_coded(types, s, index_of(code, CODES), ops)
 }
 
 // The request at `at` (U6, U7).
-fn serve_at(types: &mut [u8; TYPE_BYTES], s: State, words: &[i64], at: usize) -> Served
-    requires { Sound (whole types.old s) × (at < length words.now) }
-    ensures { Step (whole types.old s) (serve_asked (system_in (whole types.old s)) (asked_at words.now at))
-        (done types.new result) }
-{
-    let left = words.len() - at - 1;
-    let n = operands(words, at);
-    if left <= n {
-        return refused(s, refusal::FORM);
-    }
-    let code = words[at];
-    let first = at + 2;
-    let end = first + n;
-    serve(types, s, code, &words[first..end])
-}
-
-fn either(a: bool, b: bool) -> bool
-    ensures { result ≡ (a || b) }
-{
-    if a {
-        return true;
-    }
-    b
-}
-
-// The end of a run: where no request was taken, the types are given back, every byte (Q14).
-fn ended(
+fn serve_at(
     types: &mut [u8; TYPE_BYTES],
-    old: &[u8; TYPE_BYTES],
-    any: bool,
-    served: usize,
-    state: State,
-) -> Ran
-    ensures { (result ≡ record { refusal = 0; served = served; state = state }) × (types.new ≡ cond any types.old old.now) }
+    s: &mut State,
+    words: &[i64],
+    at: usize,
+) -> Result<Answer, Refusal>
+    requires { Sound (whole types.old s.old) × (at < length words.now) }
+    ensures { Step (whole types.old s.old) (serve_asked (system_in (whole types.old s.old)) (asked_at words.now at))
+        (done types.new s.new result) }
 {
-    if any {
-        return Ran {
-            refusal: 0,
-            served,
-            state,
-        };
-    }
-    *types = *old;
-    Ran {
-        refusal: 0,
-        served,
-        state,
+    match operands(words, at) {
+        Some(ops) => serve(types, s, words[at], ops),
+        None => Err(Refusal::Form),
     }
 }
 
-// Each on the state that those before it left, as long as there is room for an outcome (U9).
+// Each on the state that those before it left, as long as there is room for an outcome (U9): how many were served. Where no request was taken, the types are
+// given back, every byte (Q14).
 fn run_checked(
     types: &mut [u8; TYPE_BYTES],
     old: &[u8; TYPE_BYTES],
-    s: State,
+    s: &mut State,
     words: &[i64],
     answers: &mut [i64],
-) -> Ran
-    requires { Sound (whole types.old s) × (old.now ≡ types.old) }
-    ensures { Runs (whole types.old s) answers.old answers.new
-        (ok (run_asked (system_in (whole types.old s)) (requests (room answers.old) words.now))) (over types.new result) }
+) -> usize
+    requires { Sound (whole types.old s.old) × (old.now ≡ types.old) }
+    ensures { Runs (whole types.old s.old) answers.old answers.new
+        (ok (run_asked (system_in (whole types.old s.old)) (requests (room answers.old) words.now))) (over types.new s.new (Ok result)) }
 {
-    let most = answers.len() / Ran::WORDS;
+    let most = answers.len() / OUTCOME;
     let mut any = false;
-    let mut state = s;
-    let mut served: usize = 0;
-    let mut at: usize = 0;
-    while served < most {
-        if words.len() <= at {
-            return ended(types, old, any, served, state);
-        }
-        let r = serve_at(types, state, words, at);
-        let outcome = r.outcome;
-        any = either(any, request_common::accepted(outcome));
-        put_outcome(answers, served * Ran::WORDS, outcome);
-        state = r.state;
+    let mut served = 0;
+    let mut at = 0;
+    while served < most && at < words.len() {
+        let outcome = serve_at(types, s, words, at);
+        any |= outcome.is_ok();
+        put_outcome(answers, served * OUTCOME, outcome);
         served += 1;
         at = next(words, at);
     }
-    ended(types, old, any, served, state)
+    if !any {
+        *types = *old;
+    }
+    served
 }
 
-// On any state handed in: 2 before all else, and nothing is served (U1).
-pub fn run(types: &mut [u8; TYPE_BYTES], s: State, words: &[i64], answers: &mut [i64]) -> Ran
-    ensures { Runs (whole types.old s) answers.old answers.new
-        (run_handed (raw_state (whole types.old s)) (room answers.old) words.now) (over types.new result) }
+// On any state handed in: 2 before all else, and nothing is served (U1); else how many requests were.
+pub fn run(
+    types: &mut [u8; TYPE_BYTES],
+    s: &mut State,
+    words: &[i64],
+    answers: &mut [i64],
+) -> Result<usize, Refusal>
+    ensures { Runs (whole types.old s.old) answers.old answers.new
+        (run_handed (raw_state (whole types.old s.old)) (room answers.old) words.now) (over types.new s.new result) }
 {
-    if state_check::state_fits(types, s) {
-        let old = copied(*types);
-        return run_checked(types, &old, s, words, answers);
+    if !state_check::state_fits(types, *s) {
+        return Err(Refusal::OutOfRange);
     }
-    Ran {
-        refusal: refusal::OUT_OF_RANGE,
-        served: 0,
-        state: s,
-    }
+    let old = copied(*types);
+    Ok(run_checked(types, &old, s, words, answers))
 }

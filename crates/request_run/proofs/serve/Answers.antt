@@ -18,5 +18,5 @@ coded : (code : ℤ) (ws : List ℤ) (k : ℕ) → k ≡ index_of code 4 → by_
 coded code ws k e = ap (λ (m : ℕ). by_code m ws) e ∙ code_is code ws
 
 pub returns : goal.returns
-returns c = let a = c.args in let s = whole a.types.now a.s in
-    step-as (sym (ap (serve_asked (system_in s)) (coded a.code a.ops.now c.index_of-k.result (rw (to_z-of_z c.ranges.code) at c.index_of-k.ensures)))) c.serve_coded.ensures
+returns c = let a = c.args in let s = whole a.types.now a.s.now in
+    step-as (sym (ap (serve_asked (system_in s)) (coded a.code a.ops.now c.index_of.result (rw (to_z-of_z c.ranges.code) at c.index_of.ensures)))) c.serve_coded.ensures
