@@ -26,8 +26,10 @@ use Rattle.state_record.specs.View.{raw_state, system_in}
 use Rattle.state_bytes.specs.Flat.{Flat, counts_in, raw_flat}
 use Rattle.state_bytes.specs.Records.{state_from}
 use Rattle.state_bytes.proofs.Laws.{codes_in, read-counted, codes-refused, written-counted}
-use Rattle.request_common.specs.declared.Outcome.{Outcome}
-use Rattle.request_common.specs.declared.Outcome.TheVariants.{Refused, Pair, Number, Nothing}
+use Rattle.std.specs.Prelude.{Ok, Err}
+use Rattle.std.specs.Prelude.{Result as Either}
+use Rattle.base_numbers.specs.declared.refusal.Refusal.{Refusal}
+use Rattle.request_common.specs.declared.Answer.{Answer}
 use Rattle.request_common.specs.Served.{Done as Served}
 use Rattle.request_common.specs.Served.{outcome_of}
 use Rattle.request_common.specs.Back.{is_accepted}
@@ -44,18 +46,14 @@ Bytes x n b b' = take (size x.table * type_size) b' ≡ take (n * type_size) b +
 abbrev pub with_bytes : Flat → List ℕ → Flat
 with_bytes f t = record { types = t; links = f.links; cells = f.cells; places = f.places; calls = f.calls; counts = f.counts }
 
--- which answers are refusals
-refusal-of : (a : Outcome) → is_accepted a ≡ false → (e : ℕ) × (a ≡ Refused e)
-refusal-of (Refused e) h = (e, refl)
-refusal-of (Pair a b) h = never (sym h)
-refusal-of (Number v) h = never (sym h)
-refusal-of Nothing h = never (sym h)
+-- which outcomes are refusals
+refusal-of : (a : Either Answer Refusal) → is_accepted a ≡ false → (e : Refusal) × (a ≡ Err e)
+refusal-of (Err e) h = (e, refl)
+refusal-of (Ok x) h = never (sym h)
 
-no-refusal : (a : Outcome) (e : ℕ) → is_accepted a ≡ true → outcome_of a ≡ refused e → ⊥
-no-refusal (Refused n) e h p = never h
-no-refusal (Pair a b) e h p = let z : ◌≡◌ {A = ℕ} 0 1 = cc in omega arith
-no-refusal (Number v) e h p = let z : ◌≡◌ {A = ℕ} 0 1 = cc in omega arith
-no-refusal Nothing e h p = let z : ◌≡◌ {A = ℕ} 0 1 = cc in omega arith
+no-refusal : (a : Either Answer Refusal) (e : ℕ) → is_accepted a ≡ true → outcome_of a ≡ refused e → ⊥
+no-refusal (Err n) e h p = never h
+no-refusal (Ok x) e h p = let z : ◌≡◌ {A = ℕ} 0 1 = cc in omega arith
 
 -- a state stored in the arrays is the one that they hold, as far as it is counted
 pub stored-counted : (s : State) (old new : Flat) → Stored s old new → new.links ≡ s.links → counted (raw_flat new) ≡ counted (raw_state s)

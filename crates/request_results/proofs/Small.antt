@@ -15,8 +15,11 @@ use Rattle.law_handed.proofs.Small.{Named, small-serve}
 use Rattle.law_handed.proofs.Small.{Small as SmallWith}
 use Rattle.state_record.specs.Whole.{Whole as State}
 use Rattle.state_record.specs.View.{raw_state, system_in}
-use Rattle.request_common.specs.declared.Outcome.{Outcome}
-use Rattle.request_common.specs.declared.Outcome.TheVariants.{Refused, Pair, Number, Nothing}
+use Rattle.std.specs.Prelude.{Ok, Err}
+use Rattle.std.specs.Prelude.{Result as Either}
+use Rattle.base_numbers.specs.declared.refusal.Refusal.{Refusal}
+use Rattle.request_common.specs.declared.Answer.{Answer}
+use Rattle.request_common.specs.declared.Answer.TheVariants.{Pair, Number, Nothing}
 use Rattle.request_common.specs.Served.{Done as Served}
 use Rattle.request_common.specs.Served.{outcome_of}
 use Rattle.request_serve.specs.Serves.{defined, Serves}
@@ -42,12 +45,12 @@ serve-small s h q = go (serve s q) (small-serve s q) (checked-stays s h q)
     go (ok x) n k = small x.0 k x.1 n
 
 -- the answer that is given is that of the request
-small_of : (a : Outcome) (m : Res (System × Result)) → outcome_of a ≡ outcome m → IfOk m (λ x. SmallResult x.1) → Small a
-small_of (Refused e) m p h = tt
-small_of (Number v) m p h = tt
-small_of Nothing m p h = tt
-small_of (Pair a b) (refuse e) p h = let z : ◌≡◌ {A = ℕ} 0 1 = cc in absurd (omega arith)
-small_of (Pair a b) (ok x) p h = subst SmallResult (sym (ap result p)) h
+small_of : (a : Either Answer Refusal) (m : Res (System × Result)) → outcome_of a ≡ outcome m → IfOk m (λ x. SmallResult x.1) → Small a
+small_of (Err e) m p h = tt
+small_of (Ok (Number v)) m p h = tt
+small_of (Ok Nothing) m p h = tt
+small_of (Ok (Pair a b)) (refuse e) p h = let z : ◌≡◌ {A = ℕ} 0 1 = cc in absurd (omega arith)
+small_of (Ok (Pair a b)) (ok x) p h = subst SmallResult (sym (ap result p)) h
   where
     result : Outcomeᵐ → Result
     result (got x) = x

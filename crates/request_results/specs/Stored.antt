@@ -1,21 +1,22 @@
 -- What is stored of an outcome and its state, on the way to `Handed`.
-use Rattle.std.specs.Prelude.{◌≡◌, true, false, ℕ, ◌<◌}
+use Rattle.std.specs.Prelude.{◌≡◌, Result, Ok, Err, true, false, ℕ, ◌<◌}
 use Rattle.state_record.specs.Whole.{Whole as State}
 use Rattle.state_bytes.specs.Flat.{Flat, counts_in, cell_count, place_count, call_count}
 use Rattle.state_bytes.specs.Records.{CellsTo, PlacesTo, CallsTo}
-use Rattle.request_common.specs.declared.Outcome.{Outcome}
-use Rattle.request_common.specs.declared.Outcome.TheVariants.{Refused, Pair, Number, Nothing}
+use Rattle.base_numbers.specs.declared.refusal.Refusal.{Refusal}
+use Rattle.request_common.specs.declared.Answer.{Answer}
+use Rattle.request_common.specs.declared.Answer.TheVariants.{Pair, Number, Nothing}
 use Rattle.request_common.specs.Served.{Done as Served}
 use Rattle.request_common.specs.Served.{outcome_of}
 use Rattle.request_common.specs.Back.{is_accepted}
 use Rattle.request_results.specs.States.{LentState, outcome_number, outcome_values}
 
 -- two numbers that are small enough to be signed
-abbrev pub Small : Outcome → Type 0
-Small (Refused e) = Unit
-Small (Pair a b) = (a < 65536) × (b < 65536)
-Small (Number v) = Unit
-Small Nothing = Unit
+abbrev pub Small : Result Answer Refusal → Type 0
+Small (Err e) = Unit
+Small (Ok (Pair a b)) = (a < 65536) × (b < 65536)
+Small (Ok (Number v)) = Unit
+Small (Ok Nothing) = Unit
 
 -- the state is stored in the arrays: its counts and its counted records
 pub record Stored (s : State) (old new : Flat) : Type 0 where

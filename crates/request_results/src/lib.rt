@@ -2,68 +2,40 @@
 // (Q14, E12). What each hands out is given by definitions in specs/States.antt; that it is all of a request's contract is proved in proofs/Handing.antt.
 #![tactic(auto)]
 
-ghost use Rattle.std.specs.Prelude.{◌≡◌, true, false, List, [], ◌∷◌, ℕ, ◌<◌, pos};
+ghost use Rattle.std.specs.Prelude.{◌≡◌, List, ℕ};
 ghost use Rattle.state_record.specs.Whole.{whole};
 ghost use Rattle.state_bytes.specs.Flat.{flat};
-ghost use Rattle.request_common.specs.Served.{outcome_of, done};
-ghost use Rattle.request_results.specs.States.{outcome_number, outcome_values, lent_state};
+ghost use Rattle.request_common.specs.Served.{result_of, done};
+ghost use Rattle.request_results.specs.States.{result_values, lent_state};
 ghost use Rattle.request_results.specs.Stored.{Small, Stored, Back};
 
-use request_common::{Outcome, Served};
+use base_numbers::refusal::Refusal;
+use request_common::Answer;
 use state_bytes::{CALL_BYTES, CELL_BYTES, PLACE_BYTES};
 use state_record::State;
 
-fn put_pair(first: usize, second: usize, values: &mut [i64; 3])
-    requires { (first < 65536) × (second < 65536) }
-    ensures { values.new ≡ pos 2 ∷ pos first ∷ pos second ∷ [] }
+// How many values an answer has, and the values (E12).
+fn values_of(answer: Answer) -> [i64; 3]
+    requires { Small (Ok answer) }
+    ensures { result ≡ result_values (result_of answer) }
 {
-    *values = [2, first as i64, second as i64];
-}
-
-fn put_number(v: i64, values: &mut [i64; 3])
-    ensures { values.new ≡ pos 1 ∷ v ∷ pos 0 ∷ [] }
-{
-    *values = [1, v, 0];
-}
-
-fn put_nothing(values: &mut [i64; 3])
-    ensures { values.new ≡ pos 0 ∷ pos 0 ∷ pos 0 ∷ [] }
-{
-    *values = [0, 0, 0];
-}
-
-// The number of an outcome, and its values (E12).
-fn outcome_out(a: Outcome, values: &mut [i64; 3]) -> usize
-    requires { Small a }
-    ensures { (result ≡ outcome_number (outcome_of a)) × (values.new ≡ outcome_values values.old (outcome_of a)) }
-{
-    match a {
-        Outcome::Refused(e) => e,
-        Outcome::Pair { first, second } => {
-            put_pair(first, second, values);
-            0
-        }
-        Outcome::Number(v) => {
-            put_number(v, values);
-            0
-        }
-        Outcome::Nothing => {
-            put_nothing(values);
-            0
-        }
+    match answer {
+        Answer::Pair { first, second } => [2, first as i64, second as i64],
+        Answer::Number(v) => [1, v, 0],
+        Answer::Nothing => [0, 0, 0],
     }
 }
 
 // The state in the arrays: its counts and its counted records.
 pub fn store(
-    s: State,
+    s: &State,
     cells: &mut [u8; CELL_BYTES],
     places: &mut [u8; PLACE_BYTES],
     calls: &mut [u8; CALL_BYTES],
     counts: &mut [usize; 8],
 )
     ensures { (t l : List ℕ)
-        → Stored (whole t s) (flat t l cells.old places.old calls.old counts.old)
+        → Stored (whole t s.now) (flat t l cells.old places.old calls.old counts.old)
         (flat t l cells.new places.new calls.new counts.new) }
 {
     let cs = s.cells;
@@ -75,26 +47,29 @@ pub fn store(
     state_bytes::calls_to(calls, js);
 }
 
-// What comes back of a request: refused, nothing is stored (Q14).
+// What comes back of a request: its number, and, refused, nothing is stored (Q14).
+// Kept: the C interface (0 or the number of a refusal, the values in an array).
 pub fn hand_back(
-    r: Served,
+    r: Result<Answer, Refusal>,
+    s: &State,
     cells: &mut [u8; CELL_BYTES],
     places: &mut [u8; PLACE_BYTES],
     calls: &mut [u8; CALL_BYTES],
     counts: &mut [usize; 8],
     values: &mut [i64; 3],
 ) -> usize
-    requires { Small r.outcome }
+    requires { Small r }
     ensures { (t l : List ℕ)
-        → Back (done t r) result
+        → Back (done t s.now r) result
         (lent_state (flat t l cells.old places.old calls.old counts.old) values.old)
         (lent_state (flat t l cells.new places.new calls.new counts.new) values.new) }
 {
-    let a = r.outcome;
-    if !request_common::accepted(a) {
-        return outcome_out(a, values);
+    match r {
+        Ok(answer) => {
+            store(s, cells, places, calls, counts);
+            *values = values_of(answer);
+            0
+        }
+        Err(e) => e.number(),
     }
-    let s = r.state;
-    store(s, cells, places, calls, counts);
-    outcome_out(a, values)
 }
