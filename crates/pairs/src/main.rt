@@ -15,12 +15,10 @@ fn main(rt: HostRuntime) {
         return;
     };
     let printed = pairs_output::report(&input[..n]);
-    let length = printed.length;
-    let text = printed.text;
     base_streams::print(
         &mut stdout,
         &mut stderr,
-        &text[..length],
+        printed.as_bytes(),
         b"pairs: cannot write standard output\n",
     );
 }

@@ -1,5 +1,5 @@
 -- What is written is the definition's: the pairs of an accepted sheet, whose table the relations can be asked of; and the three cases of the input.
-use mathlib.Core.Path.{◌≡◌, sym, ap, ◌∙◌}
+use mathlib.Core.Path.{◌≡◌, refl, sym, ap, ◌∙◌}
 use mathlib.Core.Bool.{Bool, true, false}
 use mathlib.Core.List.{List, [], ◌∷◌, flatten}
 use Prim.Native.Nat.{ℕ, ◌+◌, ◌*◌, ◌/◌, ◌%◌, ◌≤◌, ◌<◌}
@@ -21,7 +21,15 @@ use Rattle.spec_sheet.specs.Lines.{bytes, join}
 use Rattle.spec_sheet.specs.Text.{spaced}
 use Rattle.spec_sheet.specs.Sheet.{malformed, read}
 use Rattle.sheet_read.specs.declared.Sheet.{Sheet}
-use Rattle.sheet_read.specs.View.{sheet_for}
+use Rattle.sheet_read.specs.View.{sheet_for, sheet_of, read_into_of}
+use Rattle.text_read.specs.declared.Malformed.{Malformed}
+use Rattle.base_numbers.specs.Refusal.{number_of}
+use Rattle.base_numbers.specs.declared.refusal.Refusal.{Refusal}
+use Rattle.base_numbers.specs.declared.refusal.Refusal.TheVariants.{Form, OutOfRange, NotBelow, ShortBuffer, UnknownSubject, NotHeld, UnknownType, Unrelated}
+use Rattle.base_numbers.specs.declared.refusal.Refusal.TheVariants.{NotOwner, NotStrict, TypesFull, PlacesFull, CellsFull, NotCallable, WrongValues, TooWide, AnsweredAlready, CallsFull, LaterLayer, UnfitTimes}
+use Rattle.std.specs.Prelude.{Result, Ok, Err}
+use Rattle.table_record.specs.declared.Counts.{Counts}
+use Rattle.table_record.specs.Layout.{empty_counts}
 use Rattle.sheet_read.proofs.Accepted.{read-loaded, read-malformed, read-accepted}
 use Rattle.pairs_output.specs.Output.{max_input, comparison_bits, pair_line, pair_lines, result_lines, pairs_output}
 use Rattle.pairs_write_lines.specs.Parts.{comparison_in, code_line, row_lines, code_lines}
@@ -66,27 +74,56 @@ module _ (T : Table) (h : T.sheet ≤ max_sheet_types) where
   pairs-are = ap flatten (from-same (λ t. row_lines (pair_table T) t T.sheet) (λ t. from T.sheet 0 (pair_line T t)) T.sheet 0
       (λ t _ p. from-same (λ s. code_line t s (get_or (pair_table T) (t * max_sheet_types + s) 0)) (pair_line T t) T.sheet 0 (λ s _ q. pair_is t s (omega arith) (omega arith))))
 
--- ---- an accepted sheet
-module _ (bs : List ℕ) (x : Sheet) (h : x ≡ sheet_for (read bs)) (z : x.refusal ≡ 0) where
-  abbrev table_of_sheet : Table
-  table_of_sheet = table_in x.types x.links x.counts
+-- ---- no refusal has the number 0
+some-number : (e : Refusal) → number_of e ≡ 0 → ⊥
+some-number Form h = omega arith
+some-number OutOfRange h = omega arith
+some-number NotBelow h = omega arith
+some-number ShortBuffer h = omega arith
+some-number UnknownSubject h = omega arith
+some-number NotHeld h = omega arith
+some-number UnknownType h = omega arith
+some-number Unrelated h = omega arith
+some-number NotOwner h = omega arith
+some-number NotStrict h = omega arith
+some-number TypesFull h = omega arith
+some-number PlacesFull h = omega arith
+some-number CellsFull h = omega arith
+some-number NotCallable h = omega arith
+some-number WrongValues h = omega arith
+some-number TooWide h = omega arith
+some-number AnsweredAlready h = omega arith
+some-number CallsFull h = omega arith
+some-number LaterLayer h = omega arith
+some-number UnfitTimes h = omega arith
 
-  pub sheet-checked : Checked x.links x.counts
-  sheet-checked = accepted-checked x.types x.links x.counts (read-accepted bs x h z)
+-- ---- what the reader answers, over the bytes that it is lent
+module _ (bs types links : List ℕ) (r : Result Counts Malformed) (h : read_into_of r types links ≡ sheet_for (read bs)) where
+  -- an accepted sheet
+  module _ (c : Counts) (e : r ≡ Ok c) where
+    is : sheet_of 0 0 types links c ≡ sheet_for (read bs)
+    is = ap (λ z. read_into_of z types links) (sym e) ∙ h
 
-  pub sheet-few : x.counts.sheet ≤ max_sheet_types
-  sheet-few = sheet-checked.limits.sheet
+    pub sheet-checked : Checked links c
+    sheet-checked = accepted-checked types links c (read-accepted bs (sheet_of 0 0 types links c) is refl)
 
-  pub accepted-prints : length bs ≤ max_input → join (code_lines (pair_table table_of_sheet) x.counts.sheet x.counts.sheet) ≡ pairs_output bs
-  unfolding pairs_output result_lines table_in table_of
-  accepted-prints l = ap join (pairs-are table_of_sheet sheet-few) ∙ ap (λ a. join (result_lines a)) (sym (read-loaded bs x h z)) ∙ rw (le-ltb max_input (length bs) l)
+    pub sheet-few : c.sheet ≤ max_sheet_types
+    sheet-few = sheet-checked.limits.sheet
 
--- ---- a refused sheet, and an input that is too long
-pub refused-prints : (bs : List ℕ) (x : Sheet) → x ≡ sheet_for (read bs) → (x.refusal ≡ 0 → ⊥) → length bs ≤ max_input
-    → join (result_lines (malformed x.refusal x.at)) ≡ pairs_output bs
-unfolding pairs_output
-refused-prints bs x h z l = ap (λ a. join (result_lines a)) (sym (read-malformed bs x h z)) ∙ rw (le-ltb max_input (length bs) l)
+    pub accepted-prints : length bs ≤ max_input → join (code_lines (pair_table (table_in types links c)) c.sheet c.sheet) ≡ pairs_output bs
+    unfolding pairs_output result_lines table_in table_of
+    accepted-prints l = ap join (pairs-are (table_in types links c) sheet-few) ∙ ap (λ a. join (result_lines a)) (sym (read-loaded bs (sheet_of 0 0 types links c) is refl))
+        ∙ rw (le-ltb max_input (length bs) l)
 
+  -- a refused one
+  pub refused-prints : (m : Malformed) → r ≡ Err m → length bs ≤ max_input → join (result_lines (malformed (number_of m.refusal) m.at)) ≡ pairs_output bs
+  unfolding pairs_output
+  refused-prints m e l =
+      let x : Sheet = sheet_of (number_of m.refusal) m.at types links empty_counts in
+      let is : x ≡ sheet_for (read bs) = ap (λ z. read_into_of z types links) (sym e) ∙ h in
+      ap (λ a. join (result_lines a)) (sym (read-malformed bs x is (some-number m.refusal))) ∙ rw (le-ltb max_input (length bs) l)
+
+-- ---- an input that is too long
 pub long-prints : (bs : List ℕ) → max_input < length bs → join (bytes "no=2" ∷ []) ≡ pairs_output bs
 unfolding pairs_output
 long-prints bs l = rw (lt-ltb max_input (length bs) l)

@@ -4,4 +4,4 @@ use native.Mathlib.Omega.{arith}
 use Rattle.pairs_output.proofs.report.Goals as goal
 
 pub returns : goal.returns
-returns c = let all-parts = printed c.put_report-length.ensures.is (omega (arith, c.put_report-length.ensures.few, c.blank-text.ensures)) in record { is = all-parts.0; within = all-parts.1 }
+returns c = let all-parts = printed c.put_report-length.ensures.is (omega (arith, c.put_report-length.ensures.few)) in record { is = all-parts.0; within = all-parts.1 }
