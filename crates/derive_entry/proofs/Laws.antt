@@ -83,7 +83,3 @@ module _ (b l : List ℕ) (c : Counts) (kind : ℕ) (t s : ℤ) where
   pub handed-fit : table_accepted (raw_table b l c) ≡ true → derive_named T kind t s ≡ derive_handed (raw_table b l c) kind t s
   unfolding derive_handed table_in
   handed-fit e = rw e
-
--- What a checked table gives to the derivation.
-pub ready : (b : List ℕ) (c : Counts) {t s : ℕ} → Limits c → length b ≡ types_size → t < c.types → s < c.types → Ready c c.types t s b
-ready b c h long p q = let n = h.types in record { limits = h; left = omega arith; right = omega arith; long = long }

@@ -93,9 +93,6 @@ module _ (o : Table → Optionᵐ ℕ) (n t s : ℕ) (b : List ℕ) where
   pub found-full : ((T : Table) → none ≡ o T) → max_types ≤ n → Begins o n t s b (Some None)
   found-full is l = (λ T. sym (is T), l)
 
-  pub found-new : ((T : Table) → none ≡ o T) → n < max_types → ref_in n b t ≡ true → ref_in n b s ≡ true → Begins o n t s b None
-  found-new is l p q = (λ T. sym (is T), l, p, q)
-
 begins-same : (o u : Table → Optionᵐ ℕ) (n t s : ℕ) (b : List ℕ) (g : Option Derived) → ((T : Table) → u T ≡ o T) → Begins o n t s b g → Begins u n t s b g
 begins-same o u n t s b (Some None) e h = (λ T. e T ∙ h.0 T, h.1)
 begins-same o u n t s b (Some (Some p)) e h = (λ T. e T ∙ h.0 T, h.1, h.2)

@@ -44,7 +44,7 @@ use Rattle.derive_record.proofs.Begins.{ref-rep}
 use Rattle.derive_sub_sup.proofs.Bytes.{record_same, exact_same, put-below, put-above, put-exact, kept-take, exact-take}
 use Rattle.derive_sub_sup.proofs.Codes.{denied-coded, methods-coded, new_coded, codes-stay}
 use Rattle.derive_sub_sup.proofs.Turns.{zeros, end, slot_in, Whole, Comes, Run, run-starts, run-ends, Turn, turn-empty}
-use Rattle.derive_sub_sup.proofs.Turns.{argument-ready, argument-full, argument-low, argument-turn, answer-ready, answer-full, answer-low, answer-turn}
+use Rattle.derive_sub_sup.proofs.Turns.{argument-full, argument-low, argument-turn, answer-full, answer-low, answer-turn}
 
 -- What needs no new type.
 module _ (T : Table) where
@@ -109,12 +109,6 @@ module _ (d : Kind) {c : Counts} {n t s : ℕ} {b : List ℕ} (asked : Ready c n
   module _ {g : Option Derived} (e : g ≡ None) (h : Begins (Without d c n t s b) n t s b g) where
     new-begins : Begins (Without d c n t s b) n t s b None
     new-begins = subst (Begins (Without d c n t s b) n t s b) e h
-
-    -- what `start` asks
-    pub new-ready : (n < max_types) × (t < max_types) × (s < max_types) × (length b ≡ types_size)
-    new-ready =
-        let p = ref-below n t b new-begins.2 in let q = ref-below n s b new-begins.3 in let u = asked.limits.types in
-        (new-begins.1, omega arith, omega arith, asked.long)
 
 -- A new type: what is known when the type at work has been stored.
 pub record Started (d : Kind) (c : Counts) (n t s : ℕ) (w : Work) (b b₀ : List ℕ) : Type 0 where
@@ -257,11 +251,6 @@ module _ {d : Kind} {c : Counts} {n t s : ℕ} {w : Work} {b b₀ : List ℕ} (f
       let r = from_start.room in
       record_same b₀ b₁ i (omega arith) (now.kept i (omega arith)) ∙ record_same b b₀ i (omega arith) (start-kept i l)
 
-  slot-ready : {b₁ ns : List ℕ} {m k : ℕ} → Run d c n w b₀ b₁ ns m k → k < end c → (t < max_types) × (s < max_types) × (k < slots_size)
-  slot-ready now test =
-      let p = ref-below n t b from_start.left in let q = ref-below n s b from_start.right in let r = from_start.room in let u = now.limits.methods in
-      (omega arith, omega arith, omega arith)
-
   slot_read : {b₁ ns : List ℕ} {m k : ℕ} → Run d c n w b₀ b₁ ns m k → {slot : Slot}
       → slot ≡ slot_at d (method_at b₁ t) (method_at b₁ s) k → slot ≡ slot_in (kind_in w) w k
   slot_read {b₁} {k = k} now told =
@@ -269,16 +258,6 @@ module _ {d : Kind} {c : Counts} {n t s : ℕ} {w : Work} {b b₀ : List ℕ} (f
       told ∙ ap (λ (e : Kind). slot_at e (method_at b₁ t) (method_at b₁ s) k) (sym from_start.kinds)
       ∙ ap (λ (r : RawType). slot_at (kind_in w) (side r) (method_at b₁ s) k) (side-stays now t (ref-below n t b from_start.left) ∙ sym from_start.left_record)
       ∙ ap (λ (r : RawType). slot_at (kind_in w) (method_in x) (side r) k) (side-stays now s (ref-below n s b from_start.right) ∙ sym from_start.right_record)
-
-  -- what `finish` asks
-  finish-ready : {b₁ ns : List ℕ} {m k : ℕ} → Run d c n w b₀ b₁ ns m k → (n < max_types) × (length b₁ ≡ types_size) × (w.key.left < 256) × (w.key.right < 256) × (ms ≤ max_methods)
-  finish-ready now = (
-    from_start.room,
-    now.long,
-    subst (λ (i : ℕ). i < 256) (sym from_start.key_left) from_start.asked.left,
-    subst (λ (i : ℕ). i < 256) (sym from_start.key_right) from_start.asked.right,
-    from_start.asked.limits.methods,
-  )
 
   module _ (T : Table) (et : T.methods ≡ ms) where
     abbrev Tb : Table
@@ -413,10 +392,6 @@ loop-starts {d} {key} {c} {n} {w} {b} {b₀} asked kinds told begun o = record {
     }
 
 module _ {d : Kind} {c : Counts} {n t s : ℕ} {w : Work} {b b₁ ns : List ℕ} {m k : ℕ} (now : Loop d c n t s w b b₁ ns m k) where
-  -- what reading slot k asks, and that slot
-  pub slot-asks : k < end c → (t < max_types) × (s < max_types) × (k < slots_size)
-  slot-asks = slot-ready now.started now.run
-
   module _ (test : k < end c) {slot : Slot} (read : (slot ≡ slot_at d (method_at b₁ t) (method_at b₁ s) k) × Low slot) where
     turn : Turn d c n w now.b₀ b₁ ns m k slot
     turn = record { now = now.run; test = test; told = slot_read now.started now.run read.0; low = read.1 }
@@ -427,12 +402,9 @@ module _ {d : Kind} {c : Counts} {n t s : ℕ} {w : Work} {b b₁ ns : List ℕ}
     pub empty-goes : slot ≡ Empty → Loop d c n t s w b b₁ ns m (k + 1)
     empty-goes e = goes (turn-empty turn e)
 
-    -- an argument, or an answer: what its derivation asks, the table full somewhere inside, a number that fits its byte, and the loop behind it
+    -- an argument, or an answer: the table full somewhere inside, a number that fits its byte, and the loop behind it
     module _ {l r : ℕ} where
       module _ (e : slot ≡ Argument l r) where
-        pub argument-asks : Ready c m l r b₁
-        argument-asks = argument-ready turn e
-
         module _ {b₂ : List ℕ} {g : Derived} (does : Gives (arg_kind d) c m l r b₁ b₂ g) where
           pub argument-stops : g ≡ None → Gives d c n t s b b₂ None
           argument-stops z = new-full now.started now.run does.keeps (argument-full turn e does z)
@@ -444,9 +416,6 @@ module _ {d : Kind} {c : Counts} {n t s : ℕ} {w : Work} {b b₁ ns : List ℕ}
           argument-goes z = goes (argument-turn turn e does z refl)
 
       module _ (e : slot ≡ Answer l r) where
-        pub answer-asks : Ready c m l r b₁
-        answer-asks = answer-ready turn e
-
         module _ {b₂ : List ℕ} {g : Derived} (does : Gives (answer_kind d) c m l r b₁ b₂ g) where
           pub answer-stops : g ≡ None → Gives d c n t s b b₂ None
           answer-stops z = new-full now.started now.run does.keeps (answer-full turn e does z)
@@ -456,9 +425,6 @@ module _ {d : Kind} {c : Counts} {n t s : ℕ} {w : Work} {b b₁ ns : List ℕ}
 
           pub answer-goes : {p : ℕ × ℕ} → g ≡ Some p → Loop d c n t s w b b₂ (set ns k (p.0 + 1)) p.1 (k + 1)
           answer-goes z = goes (answer-turn turn e does z refl)
-
-  pub finish-asks : (n < max_types) × (length b₁ ≡ types_size) × (w.key.left < 256) × (w.key.right < 256) × (c.methods ≤ max_methods)
-  finish-asks = finish-ready now.started now.run
 
   -- the finished type is stored
   pub ends : {b' : List ℕ} → end c ≤ k → Stored w c.methods n ns b₁ b' → Gives d c n t s b b' (Some (n, m))

@@ -94,15 +94,6 @@ module _ {d : Kind} {c : Counts} {n : ℕ} {w : Work} {b₀ b ns : List ℕ} {m 
   pub run-ends : end c ≤ k → Comes d c n w b₀ (λ T f. some (tabled T c m b, ns))
   run-ends h T e f p = now.same T e f p ∙ run_none (derive f) d (slot_in d w) (end c) k (tabled T c m b) ns h
 
-  -- what a derivation for a slot asks
-  ready : (l r : ℕ) → l < 256 → r < 256 → Ready c m l r b
-  ready l r p q = let h = now.limits in record {
-    limits = record { subjects = h.subjects; methods = h.methods; cats = h.cats; sheet = h.sheet; counted = let u = h.counted in let v = now.more in omega arith; types = now.most };
-    left = p;
-    right = q;
-    long = now.long;
-  }
-
 -- the loop at slot k, which has been read
 pub record Turn (d : Kind) (c : Counts) (n : ℕ) (w : Work) (b₀ b ns : List ℕ) (m k : ℕ) (slot : Slot) : Type 0 where
   pub now : Run d c n w b₀ b ns m k
@@ -177,9 +168,6 @@ module _ {d : Kind} {c : Counts} {n : ℕ} {w : Work} {b₀ b ns : List ℕ} {m 
 
   module _ {l r : ℕ} where
     module _ (e : slot ≡ Argument l r) where
-      pub argument-ready : Ready c m l r b
-      argument-ready = let p = subst Low e turn.low in ready now l r p.0 p.1
-
       module _ {g : Derived} {b₁ : List ℕ} (does : Gives (arg_kind d) c m l r b b₁ g) where
         by-argument : (rec : Derivation) (t : Table) → step rec d slot k t ns ≡ then (rec t (arg_kind d) l r) λ p. some (p.0, set ns k p.1)
         by-argument rec t = ap (λ (u : Slot). step rec d u k t ns) e
@@ -194,9 +182,6 @@ module _ {d : Kind} {c : Counts} {n : ℕ} {w : Work} {b₀ b ns : List ℕ} {m 
         argument-turn = turn_by (arg_kind d) (λ i. i) by-argument does
 
     module _ (e : slot ≡ Answer l r) where
-      pub answer-ready : Ready c m l r b
-      answer-ready = let p = subst Low e turn.low in ready now l r (omega arith) (omega arith)
-
       module _ {g : Derived} {b₁ : List ℕ} (does : Gives (answer_kind d) c m l r b b₁ g) where
         by_answer : (rec : Derivation) (t : Table) → step rec d slot k t ns ≡ then (rec t (answer_kind d) l r) λ p. some (p.0, set ns k (suc p.1))
         by_answer rec t = ap (λ (u : Slot). step rec d u k t ns) e

@@ -4,10 +4,10 @@
 #![tactic(auto)]
 
 ghost use Rattle.std.specs.Prelude.{◌≡◌, ◌+◌};
+ghost use Rattle.base_numbers.specs.Refusal.{res_by};
 ghost use Rattle.spec_model.specs.Check.{compare_handed};
 ghost use Rattle.table_record.specs.Store.{raw_table};
 ghost use Rattle.relation_compare.specs.Comparing.{comparison_of};
-ghost use Rattle.relation_compare.specs.Compared.{compared_of};
 ghost use Rattle.relation_compare.specs.Pairs.{pairs_handed};
 ghost use Rattle.derive_entry.specs.Handed.{derive_handed};
 ghost use Rattle.spec_sheet.specs.Text.{write};
@@ -15,9 +15,8 @@ ghost use Rattle.text_write.specs.Written.{WrittenIs};
 ghost use Rattle.state_bytes.specs.Flat.{counts_in};
 ghost use Rattle.export_table.specs.Codes.{comparison_code, compared_code, handed_out, DerivedIs, lent};
 
-use base_numbers::{refusal, wide};
-use derive_entry::Made;
-use relation_compare::{Compared, Comparison, PAIR_BYTES};
+use base_numbers::refusal::Refusal;
+use relation_compare::{Comparison, PAIR_BYTES};
 use table_record::{Counts, LINK_BYTES, TYPE_BYTES};
 
 // A table's counts from five numbers in a row.
@@ -37,18 +36,17 @@ fn counts_of(n: [usize; 5]) -> Counts
 fn comparison_code(a: Comparison) -> usize
     ensures { result ≡ comparison_code (comparison_of a) }
 {
-    let code = relation_compare::pair_code(a);
-    16 + wide(code)
+    16 + usize::from(relation_compare::pair_code(a))
 }
 
 // What Compare comes to as one number.
-fn compared_code(r: Compared) -> usize
-    ensures { result ≡ compared_code (compared_of r) }
+// Kept: the C interface; each function here returns the number of a refusal.
+fn compared_code(r: Result<Comparison, Refusal>) -> usize
+    ensures { result ≡ compared_code (res_by comparison_of r) }
 {
     match r {
-        Compared::Unfit => refusal::OUT_OF_RANGE,
-        Compared::Unknown => refusal::UNKNOWN_TYPE,
-        Compared::Comparison(a) => comparison_code(a),
+        Ok(a) => comparison_code(a),
+        Err(e) => e.number(),
     }
 }
 
@@ -97,13 +95,13 @@ pub extern "C" fn pilgonca_pairs(
         ≡ handed_out out.old (pairs_handed (raw_table types.now links.now (counts_in counts.now))) }
 {
     let c = counts_of(*counts);
-    let r = relation_compare::pairs_of(types, links, c);
-    if r.fits {
-        let entries = r.entries;
-        *out = entries;
-        return 0;
+    match relation_compare::pairs_of(types, links, c) {
+        Ok(entries) => {
+            *out = entries;
+            0
+        }
+        Err(e) => e.number(),
     }
-    refusal::OUT_OF_RANGE
 }
 
 // A derivation (E10) on a table handed in: Sub (kind 0), Sup (1) or Closed (2) of types t and s. 0, with types and counts those of the table that there is now
@@ -125,13 +123,11 @@ pub extern "C" fn pilgonca_derive(
     let c = counts_of(*counts);
     let r = derive_entry::derive(types, links, c, kind, t, s);
     match r {
-        Made::Unfit => refusal::OUT_OF_RANGE,
-        Made::Unknown => refusal::UNKNOWN_TYPE,
-        Made::Full => refusal::TYPES_FULL,
-        Made::At(i, count) => {
+        Ok((i, count)) => {
             *counts = [c.subjects, c.methods, c.cats, c.sheet, count];
             *number = i;
             0
         }
+        Err(e) => e.number(),
     }
 }
