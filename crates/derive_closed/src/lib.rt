@@ -13,6 +13,7 @@ use derive_slots::{METHOD_SLOTS, SLOT_BYTES, Slot};
 use table_record::{Counts, Head, Key, Kind, Method, TYPE_BYTES, TypeRec};
 
 // Closed(R,V) of two reference types, with the signatures of Sub(R,V), which takes no number itself (D9, D10).
+// Kept: F1; Sub and Sup call each other by name, so that the loop stands here once more and not in a function that takes them.
 fn closed(b: &mut [u8; TYPE_BYTES], c: Counts, r: usize, v: usize) -> Derived
     requires { Ready c c.types r v b.old × (ref_in c.types b.old r ≡ true) × (ref_in c.types b.old v ≡ true) }
     ensures { Gives closed c c.types r v b.old b.new result }

@@ -18,6 +18,7 @@ use derive_record::Derived;
 use table_record::{Counts, Kind, LINK_BYTES, TYPE_BYTES, names_ref};
 
 // The kind that a code asks for: one of the three, Closed only of two reference types.
+// Kept: the C interface; a kind is asked for by a number, any number.
 fn asked(b: &[u8; TYPE_BYTES], n: usize, kind: usize, t: usize, s: usize) -> Option<Kind>
     requires { n ≤ max_types }
     ensures { Asked kind (ref_in n b.now t && ref_in n b.now s) result }

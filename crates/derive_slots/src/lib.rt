@@ -35,6 +35,7 @@ pub fn is_key(h: Head, key: Key) -> bool
 }
 
 // A code past the last state is read as unavail, and stored as unavail's (B8).
+// Kept: rule H15; methods of a number type are not looked at, so that any byte may stand for a state, and states are bytes here.
 fn state_code(x: u8) -> u8
     ensures { (state_of result ≡ state_of x) × (result < 4) }
 {

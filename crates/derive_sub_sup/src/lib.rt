@@ -85,6 +85,7 @@ pub fn sup(b: &mut [u8; TYPE_BYTES], c: Counts, n: usize, t: usize, s: usize) ->
 }
 
 // Sub(T,S), in the table of these bytes and counts.
+// Kept: what may not change; docs name sub_type and sup_type, whose promise `Derives` is of the whole table and not of the first n types.
 pub fn sub_type(b: &mut [u8; TYPE_BYTES], c: Counts, t: usize, s: usize) -> Derived
     requires { Ready c c.types t s b.old }
     ensures { Derives sub c t s b.old b.new result }
