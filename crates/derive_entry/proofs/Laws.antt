@@ -3,10 +3,8 @@ use mathlib.Core.Path.{◌≡◌, refl, sym, ap, ◌∙◌, subst}
 use mathlib.Core.Bool.{Bool, true, false, ◌&&◌, cond}
 use mathlib.Core.List.{List}
 use Prim.Native.Nat.{ℕ, ◌≤◌, ◌<◌}
-use native.Mathlib.Omega.{arith}
 use lib.Dec.{eqb}
 use lib.IntN.{ℤ}
-use lib.ListN.{length}
 use Rattle.spec_model.specs.Basics.{Res, refuse, ok, need, names, named}
 use Rattle.spec_model.specs.Table.{Kind, Table, size}
 use Rattle.spec_model.specs.Restriction.{derived}
@@ -15,14 +13,11 @@ use Rattle.spec_model.proofs.Rules.{never}
 use Rattle.spec_model.specs.Refusals.{out_of_range, unknown_type}
 use Rattle.table_record.specs.declared.Counts.{Counts}
 use Rattle.table_record.specs.Store.{raw_table, table_in, ref_in}
-use Rattle.table_record.specs.Limits.{Limits}
 use Rattle.table_record.proofs.Tables.{size_is, ref-table}
-use Rattle.table_record.specs.Layout.{types_size}
 use Rattle.base_numbers.specs.Index.{index_of}
 use Rattle.base_numbers.proofs.Laws.{index-unknown, index-known}
 use Rattle.spec_model.specs.Records.{kind_code}
 use Rattle.derive_type.proofs.Laws.{code-back}
-use Rattle.derive_sub_sup.specs.Link.{Ready}
 use Rattle.derive_entry.specs.Handed.{kind_asked, is_ref_type, derive_named, derive_handed}
 use Rattle.derive_entry.specs.Result.{Derivation, refused_with, DerivesHanded}
 

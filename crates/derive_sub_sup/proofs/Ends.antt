@@ -30,7 +30,7 @@ use Rattle.spec_model.specs.Records.{argument_slots}
 use Rattle.table_record.proofs.Lists.{lt-or-ge, same_or}
 use Rattle.table_record.proofs.Laws.{types-length, methods-length, method-in, put-length, put-types}
 use Rattle.table_record.proofs.Tables.{types-to-length, types-to-at, types-add, types-put, types_of, size_is, ref-below}
-use Rattle.table_record.specs.Layout.{type_size, types_size}
+use Rattle.table_record.specs.Layout.{type_size}
 use Rattle.derive_type.specs.declared.Work.{Work}
 use Rattle.derive_slots.specs.declared.Slot.{Slot}
 use Rattle.derive_slots.specs.declared.Slot.TheVariants.{Empty, Argument, Answer}

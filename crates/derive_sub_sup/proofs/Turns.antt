@@ -20,7 +20,7 @@ use Rattle.derive_slots.specs.declared.Slot.TheVariants.{Empty, Argument, Answer
 use Rattle.derive_slots.specs.Slots.{slot_at, Low, method_slots, slots_size}
 use Rattle.derive_type.specs.NewType.{method_in, kind_in}
 use Rattle.derive_record.specs.Begins.{Derived, tabled}
-use Rattle.derive_sub_sup.specs.Link.{Ready, Kept, Sized, Exact, ExactTo, Coded, CodedTo, Gives, derived_in}
+use Rattle.derive_sub_sup.specs.Link.{Kept, Sized, Exact, ExactTo, Coded, CodedTo, Gives, derived_in}
 use Rattle.derive_sub_sup.proofs.Bytes.{exact_same}
 use Rattle.table_record.proofs.Lists.{lt-or-ge}
 use Rattle.table_record.specs.Layout.{types_size}

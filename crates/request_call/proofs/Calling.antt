@@ -45,15 +45,12 @@ use Rattle.request_common.specs.declared.Answer.{Answer}
 use Rattle.request_common.specs.Served.{outcome_of, served_with, served_as, Step}
 use Rattle.request_common.proofs.Laws.{refuses-kept, step-as, table_is, cells_are, places-are, calls_are, subject-at, held_at}
 use Rattle.request_value.specs.declared.Met.{Met}
-use Rattle.request_value.specs.declared.Met.TheVariants.{Numbers, Reference}
+use Rattle.request_value.specs.declared.Met.TheVariants.{Numbers}
 use Rattle.request_value.specs.Sent.{arguments_of, all_sent, Sent, Passes}
 use Rattle.request_value.proofs.Sending.{went-counted, step_after}
 use Rattle.request_value.proofs.OtherCalls.{calls_left, calls-step}
 use Rattle.request_call.specs.Called.{new_call, call_through, call_held, Planned}
 use Rattle.request_call.specs.declared.Plan.{Plan}
-
-pub call-eq : (a b c x y z : ℕ) → a ≡ x → b ≡ y → c ≡ z → new_call a b c ≡ new_call x y z
-call-eq a b c x y z p q r = ap (λ (n : ℕ). new_call n b c) p ∙ ap (λ (n : ℕ). new_call x n c) q ∙ ap (new_call x y) r
 
 module _ (s : State) (h : Sound s) (who : ℕ) (may : MayCall s who) (k m adapters : ℕ) (cell : k < s.cells.count) (method : m < s.counts.methods) where
   pub call-byte : (k < 256) × (m < 256)

@@ -6,7 +6,6 @@ use mathlib.Core.List.{List, ◌++◌, map, flatten, append-nil}
 use mathlib.Core.Option.{Option, none, some}
 use Prim.Native.Nat.{ℕ, ◌*◌, ◌≤◌}
 use native.Mathlib.Omega.{arith}
-use lib.IntN.{ℤ}
 use lib.ListN.{take, drop, drop_of_length-le}
 use Rattle.spec_model.specs.Basics.{Res, refuse, ok, need}
 use Rattle.spec_model.specs.Table.{Ty, size}
@@ -15,7 +14,6 @@ use Rattle.std.specs.Prelude.{Result as Either}
 use Rattle.spec_model.specs.Requests.{System, Request, Result, Outcome as Outcomeᵐ, got, refused, outcome, serve, after}
 use Rattle.spec_model.specs.Check.{system_accepted, system_of}
 use Rattle.spec_model.specs.Handed.{counted, hand_back, serve_handed}
-use Rattle.spec_model.proofs.Rules.{never}
 use Rattle.spec_model.specs.Refusals.{form, out_of_range}
 use Rattle.law_model.proofs.Returned.{Before, handed-is}
 use Rattle.law_handed.proofs.Laws.{returns-means}

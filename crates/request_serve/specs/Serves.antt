@@ -1,5 +1,5 @@
 -- What an entry point promises of every state and all numbers: result, counts and counted records are the definition's.
-use Rattle.std.specs.Prelude.{◌≡◌, cond, Err, ℕ, ◌*◌, take, drop}
+use Rattle.std.specs.Prelude.{◌≡◌, cond, Err, ◌*◌, take, drop}
 use mathlib.Core.List.{◌++◌, map, flatten}
 use Rattle.std.proofs.Math.Option.{Option, none, some}
 use Rattle.spec_model.specs.Basics.{Res, need}

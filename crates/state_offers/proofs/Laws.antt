@@ -109,9 +109,6 @@ step-says t n z w = go (names z t.methods) (is_ref (type_at t n).rep) (permit (m
 abbrev pub Rest : Table → List ℤ → ℕ → ℕ → ℕ → Type 0
 Rest T w t at i = permits_named T at (drop i w) ≡ permits_named T t w
 
-pub rest-starts : (T : Table) (w : List ℤ) (t : ℕ) → Rest T w t t 0
-rest-starts T w t = refl
-
 pub rest-ends : (T : Table) (w : List ℤ) (t at i : ℕ) → Rest T w t at i → length w ≤ i → is_ref (type_at T at).rep ≡ permits_named T t w
 unfolding permits_named permits
 rest-ends T w t at i h k = ap (permits_named T at) (sym (drop_of_length-le w {i = i} k)) ∙ h

@@ -14,12 +14,11 @@ use Rattle.law_model.proofs.Records.{place-back, call_back}
 use Rattle.table_record.specs.Store.{table_in}
 use Rattle.state_record.specs.declared.Cell.{Cell}
 use Rattle.state_record.specs.declared.PlaceRec.{PlaceRec}
-use Rattle.state_record.specs.declared.Call.{Call}
 use Rattle.state_record.specs.Counted.{Cells}
 use Rattle.state_record.specs.Counted.{Places}
 use Rattle.state_record.specs.Counted.{Calls}
 use Rattle.state_record.specs.Whole.{Whole as State}
-use Rattle.state_record.specs.View.{seen, cell_of, place_of, call_of, blank_cell, blank_place, blank_call, cells_in, places_in, calls_in, cell_added, place_added, call_added, call_answered, answered_as}
+use Rattle.state_record.specs.View.{seen, cell_of, place_of, call_of, blank_cell, blank_place, blank_call, cells_in, places_in, calls_in, cell_added, call_answered, answered_as}
 use Rattle.state_record.specs.View.{system_in}
 use Rattle.state_record.proofs.Lists.{seen-length, seen_at, seen-added, seen-set}
 
@@ -41,17 +40,11 @@ places-length ps = seen-length rec_of blank_place ps
 pub place_is : (ps : Places) (p : ℕ) → p < ps.count → place_at (places_in ps) p ≡ place_of (get_or ps.list p blank_place).place
 place_is ps p h = seen_at rec_of blank_place ps p no_place h
 
-pub places-added : (ps : Places) (p : PlaceRec) → ps.count < length ps.list → places_in (place_added ps p) ≡ places_in ps ++ (place_of p.place ∷ [])
-places-added ps p h = seen-added rec_of blank_place ps p h
-
 pub calls-length : (js : Calls) → length (calls_in js) ≡ js.count
 calls-length js = seen-length call_of blank_call js
 
 pub call-is : (js : Calls) (j : ℕ) → j < js.count → get_or (calls_in js) j no_call ≡ call_of (get_or js.list j blank_call)
 call-is js j h = seen_at call_of blank_call js j no_call h
-
-pub calls-added : (js : Calls) (c : Call) → js.count < length js.list → calls_in (call_added js c) ≡ calls_in js ++ (call_of c ∷ [])
-calls-added js c h = seen-added call_of blank_call js c h
 
 pub calls-answered : (js : Calls) (j : ℕ) → j < js.count → js.count ≤ length js.list → calls_in (call_answered js j) ≡ set (calls_in js) j (flagged (get_or (calls_in js) j no_call) true)
 calls-answered js j h r = seen-set call_of blank_call js j (answered_as (get_or js.list j blank_call)) h r

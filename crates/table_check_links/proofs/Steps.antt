@@ -10,9 +10,6 @@ refused r x e h = sym e ∙ not-true r h
 pub passed : (r x : Bool) → r ≡ x → not r ≡ false → x ≡ true
 passed r x e h = sym e ∙ not-false r h
 
--- A conjunction that ends at its first part, or goes on.
-pub ends : (a b : Bool) → a ≡ false → false ≡ (a && b)
-ends a b e = rw e
-
+-- A conjunction that goes on behind its first part.
 pub goes : (a b r : Bool) → a ≡ true → r ≡ b → r ≡ (a && b)
 goes a b r e f = rw e f

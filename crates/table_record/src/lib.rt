@@ -201,15 +201,6 @@ pub struct Key {
     pub right: usize,
 }
 
-// The codes of the three kinds.
-impl Key {
-    pub const SUB: u8 = 0;
-
-    pub const SUP: u8 = 1;
-
-    pub const CLOSED: u8 = 2;
-}
-
 // The broader categories of a category: how many, and their numbers.
 #[derive(Clone, Copy)]
 pub struct Links {

@@ -1,6 +1,6 @@
 -- The tests of A1 and A2 in their order.
 use mir.Facts.{to_z-of_z}
-use mathlib.Core.Path.{refl, sym, ◌∙◌, ap}
+use mathlib.Core.Path.{refl, sym, ◌∙◌}
 use Rattle.crossing_targets.specs.Targets.{option_of}
 use Rattle.state_record.specs.Whole.{whole}
 use Rattle.request_common.specs.Served.{done}

@@ -1,6 +1,5 @@
 -- A refusal ends it (`reference-stops`); else the call is answered in the state that the crossing left.
 use mir.Facts.{to_z-of_z}
-use mathlib.Core.Path.{sym, ap, ◌∙◌}
 use native.Mathlib.Omega.{arith}
 use Rattle.std.proofs.lemmas.Result.{err_from_is_err_and}
 use Rattle.state_record.specs.Whole.{whole}

@@ -1,8 +1,7 @@
 -- A reference must be held and crosses; a number passes.
 use mir.Facts.{to_z-of_z}
-use mathlib.Core.Path.{refl, sym, ap, ◌∙◌}
+use mathlib.Core.Path.{refl, sym, ◌∙◌}
 use native.Mathlib.Omega.{arith}
-use lib.IntN.{ℤ}
 use Rattle.std.proofs.lemmas.Result.{err_from_is_err_and}
 use Rattle.state_record.specs.Whole.{whole}
 use Rattle.state_record.proofs.Kept.{sound-few}

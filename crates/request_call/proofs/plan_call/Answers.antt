@@ -1,7 +1,6 @@
 -- The tests of C1 to C3 in their order; what passed names the subject, the cell and the method.
 use mir.Facts.{to_z-of_z}
 use mathlib.Core.Path.{refl, sym, ◌∙◌}
-use native.Mathlib.Omega.{arith}
 use Rattle.state_record.specs.Whole.{whole}
 use Rattle.request_call.proofs.Calling.{planned-as, asked-unknown-subject, who-named, asked-not-held, cell-here, asked-not-callable, asked-goes}
 use Rattle.request_call.proofs.plan_call.Goals as goal

@@ -1,4 +1,4 @@
-use Rattle.std.proofs.Common.{sym, ◌∙◌, ◌+◌, ◌*◌, get_or, arith}
+use Rattle.std.proofs.Common.{sym, ◌∙◌, ◌*◌, get_or, arith}
 use Rattle.table_check_links.proofs.Each.{rest-next, rest-broken}
 use Rattle.state_bytes.proofs.Codes.{PlaceFits, places-each, place-fits, places-end, too_large, small-enough}
 use Rattle.state_bytes.specs.Flat.{place_size}

@@ -1,4 +1,4 @@
-use Rattle.std.proofs.Common.{◌≡◌, refl, length, ◌∙◌, arith}
+use Rattle.std.proofs.Common.{◌≡◌, length, ◌∙◌, arith}
 use Rattle.state_record.specs.View.{blank_place}
 use lib.ListN.{get_or}
 use Rattle.state_bytes.proofs.Rows.{rows_none, rows_more}
