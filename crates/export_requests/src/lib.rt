@@ -11,12 +11,13 @@ ghost use Rattle.state_bytes.specs.Flat.{flat};
 ghost use Rattle.request_results.specs.States.{Handed, lent_state};
 ghost use Rattle.request_operands.specs.Given.{given_in};
 
-use base_numbers::refusal;
+use base_numbers::refusal::Refusal;
 use state_bytes::{CALL_BYTES, CELL_BYTES, PLACE_BYTES};
 use table_record::{LINK_BYTES, TYPE_BYTES};
 
 // The request of a code and its operands on the state that the bytes hold: 2 where a code in them names nothing (H3); else it is served, and what comes of it
 // goes back.
+// Kept: the C interface (0 or the number of a refusal).
 fn serve_bytes(
     types: &mut [u8; TYPE_BYTES],
     links: &[u8; LINK_BYTES],
@@ -36,11 +37,11 @@ fn serve_bytes(
         values.new) }
 {
     if !state_bytes::codes_fit(places, calls, counts[6], counts[7]) {
-        return refusal::OUT_OF_RANGE;
+        return Refusal::OutOfRange.number();
     }
-    let s = state_bytes::state_from(links, cells, places, calls, *counts);
-    let r = request_serve::serve(types, s, code, ops);
-    request_results::hand_back(r, cells, places, calls, counts, values)
+    let mut s = state_bytes::state_from(links, cells, places, calls, *counts);
+    let r = request_serve::serve(types, &mut s, code, ops);
+    request_results::hand_back(r, &s, cells, places, calls, counts, values)
 }
 
 // New (N): subject, class and cell type; the values are the new cell and its place.

@@ -1,8 +1,10 @@
 -- What the C functions hand out that load a state, ask what it offers and run requests on it.
-use Rattle.std.specs.Prelude.{◌≡◌, Bool, ℕ, ◌*◌, ℤ, length, replicate, take, drop}
+use Rattle.std.specs.Prelude.{◌≡◌, Result, Ok, Err, Bool, ℕ, ◌*◌, ℤ, length, replicate, take, drop}
 use mathlib.Core.List.{List, ◌++◌, map, flatten}
 use Rattle.std.proofs.lemmas.List.Edits.{sets}
 use Rattle.spec_model.specs.Basics.{Res, refuse, ok}
+use Rattle.base_numbers.specs.declared.refusal.Refusal.{Refusal}
+use Rattle.base_numbers.specs.Refusal.{number_of}
 use Rattle.spec_model.specs.Relations.{bit}
 use Rattle.spec_model.specs.Table.{size}
 use Rattle.spec_model.specs.Requests.{System, Outcome}
@@ -14,7 +16,12 @@ use Rattle.request_words.specs.Words.{outcome_words}
 use Rattle.spec_sheet.specs.Sheet.{SheetResult}
 use Rattle.sheet_read.specs.Result.{sheet_for, sheet_of}
 
--- the number returned and what stands beside it: 0 or 1, or, refused, what stood there
+-- the number returned and what stands beside it: what was found, or, refused, what stood there
+abbrev pub found_out : ℕ → Result ℕ Refusal → ℕ × ℕ
+found_out old (Ok n) = (0, n)
+found_out old (Err e) = (number_of e, old)
+
+-- the same of what is offered: 0 or 1, or, refused, what stood there
 abbrev pub offered_out : ℕ → Res Bool → ℕ × ℕ
 offered_out old (refuse n) = (n, old)
 offered_out old (ok b) = (0, bit b)

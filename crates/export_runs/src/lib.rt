@@ -2,19 +2,18 @@
 // run of requests, for any bytes and any numbers.
 #![tactic(auto)]
 
-ghost use Rattle.std.specs.Prelude.{◌≡◌};
+ghost use Rattle.std.specs.Prelude.{◌≡◌, ℕ};
 ghost use Rattle.spec_sheet.specs.Sheet.{read as read_sheet};
 ghost use Rattle.state_bytes.specs.Flat.{flat, raw_flat, cells_size, places_size, calls_size};
 ghost use Rattle.state_offers.specs.Chained.{offers_handed, offered_as};
 ghost use Rattle.request_run.specs.Requested.{run_handed};
 ghost use Rattle.request_run.specs.Ran.{room};
-ghost use Rattle.export_runs.specs.Results.{offered_out, no_bytes, LoadedIs, lent_run, RunsOut};
+ghost use Rattle.export_runs.specs.Results.{found_out, offered_out, no_bytes, LoadedIs, lent_run, RunsOut};
 
-use base_numbers::refusal;
+use base_numbers::refusal::Refusal;
 use state_bytes::{CALL_BYTES, CELL_BYTES, PLACE_BYTES};
-use state_offers::Offered;
 use state_record::State;
-use table_record::{LINK_BYTES, TYPE_BYTES};
+use table_record::{Counts, LINK_BYTES, TYPE_BYTES};
 
 fn clear(cells: &mut [u8; CELL_BYTES], places: &mut [u8; PLACE_BYTES], calls: &mut [u8; CALL_BYTES])
     ensures { (cells.new ≡ no_bytes cells_size) × (places.new ≡ no_bytes places_size) × (calls.new ≡ no_bytes calls_size) }
@@ -38,29 +37,34 @@ pub fn pilgonca_load(
     ensures { LoadedIs (read_sheet text.now) result at.new
         (flat types.new links.new cells.new places.new calls.new counts.new) }
 {
-    let r = sheet_read::read_into(text, types, links);
-    *at = r.at;
     clear(cells, places, calls);
-    let l = *links;
-    let s = State::loaded(l, r.counts);
-    request_results::store(s, cells, places, calls, counts);
-    r.refusal
+    match sheet_read::read_into(text, types, links) {
+        Ok(c) => {
+            let s = State::loaded(*links, c);
+            request_results::store(&s, cells, places, calls, counts);
+            *at = 0;
+            0
+        }
+        Err(e) => {
+            let s = State::loaded(*links, Counts::empty());
+            request_results::store(&s, cells, places, calls, counts);
+            *at = e.at;
+            e.refusal.number()
+        }
+    }
 }
 
-// The number of what is offered, and 0 or 1 beside it.
-fn offered_code(o: Offered, offered: &mut usize) -> usize
-    ensures { (result, offered.new) ≡ offered_out offered.old (offered_as o) }
+// The number of a result, 0 or its refusal's, and beside it what was found, or, refused, what stood there.
+// Kept: the C interface.
+fn number_out(r: Result<usize, Refusal>, found: &mut usize) -> usize
+    ensures { (result, found.new) ≡ found_out found.old r }
 {
-    match o {
-        Offered::Unfit => refusal::OUT_OF_RANGE,
-        Offered::Yes => {
-            *offered = 1;
+    match r {
+        Ok(n) => {
+            *found = n;
             0
         }
-        Offered::No => {
-            *offered = 0;
-            0
-        }
+        Err(e) => e.number(),
     }
 }
 
@@ -83,8 +87,40 @@ pub fn pilgonca_offers(
         (flat types.now links.now cells.now places.now calls.now counts.now)) cell
         chain.now) }
 {
-    let o = state_offers::offers(types, links, cells, places, calls, counts, cell, chain);
-    offered_code(o, offered)
+    match state_offers::offers(types, links, cells, places, calls, counts, cell, chain) {
+        Ok(yes) => number_out(Ok(usize::from(yes)), offered),
+        Err(e) => number_out(Err(e), offered),
+    }
+}
+
+// A run on the state that the bytes hold: how many requests were served, or 2, and nothing is changed.
+fn run_bytes(
+    types: &mut [u8; TYPE_BYTES],
+    links: &[u8; LINK_BYTES],
+    cells: &mut [u8; CELL_BYTES],
+    places: &mut [u8; PLACE_BYTES],
+    calls: &mut [u8; CALL_BYTES],
+    counts: &mut [usize; 8],
+    words: &[i64],
+    answers: &mut [i64],
+) -> Result<usize, Refusal>
+    ensures { (served : ℕ)
+        → RunsOut
+        (run_handed
+        (raw_flat (flat types.old links.now cells.old places.old calls.old counts.old))
+        (room answers.old) words.now) (found_out served result).0
+        (lent_run (flat types.old links.now cells.old places.old calls.old counts.old)
+        answers.old served)
+        (lent_run (flat types.new links.now cells.new places.new calls.new counts.new)
+        answers.new (found_out served result).1) }
+{
+    if !state_bytes::codes_fit(places, calls, counts[6], counts[7]) {
+        return Err(Refusal::OutOfRange);
+    }
+    let mut s = state_bytes::state_from(links, cells, places, calls, *counts);
+    let served = request_run::run(types, &mut s, words, answers)?;
+    request_results::store(&s, cells, places, calls, counts);
+    Ok(served)
 }
 
 // A run (U): 0, with the outcomes, how many requests were served and the state that they leave; or 2, and nothing is changed.
@@ -108,16 +144,6 @@ pub fn pilgonca_run(
         (lent_run (flat types.new links.now cells.new places.new calls.new counts.new)
         answers.new served.new) }
 {
-    if !state_bytes::codes_fit(places, calls, counts[6], counts[7]) {
-        return refusal::OUT_OF_RANGE;
-    }
-    let s = state_bytes::state_from(links, cells, places, calls, *counts);
-    let r = request_run::run(types, s, words, answers);
-    if r.refusal != 0 {
-        return r.refusal;
-    }
-    let state = r.state;
-    request_results::store(state, cells, places, calls, counts);
-    *served = r.served;
-    0
+    let ran = run_bytes(types, links, cells, places, calls, counts, words, answers);
+    number_out(ran, served)
 }

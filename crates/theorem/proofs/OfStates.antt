@@ -25,8 +25,8 @@ use Rattle.request_words.specs.Words.{requests, outcome_words}
 use Rattle.request_run.specs.Requested.{run_asked, run_handed}
 use Rattle.request_run.specs.Ran.{Over as Ran}
 use Rattle.request_run.specs.Ran.{room, RanAs, Runs}
-use Rattle.state_offers.specs.declared.Offered.{Offered}
-use Rattle.state_offers.specs.declared.Offered.TheVariants.{Unfit, Yes, No}
+use Rattle.std.specs.Prelude.{Result, Ok, Err}
+use Rattle.base_numbers.specs.declared.refusal.Refusal.{Refusal}
 use Rattle.state_offers.specs.Chained.{offers_named, offered_as}
 use Rattle.theorem.specs.Shown.{Accepts, first, book_of, RunReturns, History, begins, asks, runs, alike, Holds, Permitted}
 use Rattle.theorem.specs.OfStates.{seen_by, ShownOfStates}
@@ -70,7 +70,7 @@ module _ (s : State) (words old new : List ℤ) (y : Ran) (p : So (system_accept
     subst (λ z. History f (raw_state y.state) (l ++ z)) (sym (ap (seen_by qs) ran.answers ∙ words-seen words old (system_in s))) (runs {qs = qs} {os = os} h run-returns),
   )
 
--- ---- the code's three answers to Offers
+-- ---- the code's answers to Offers
 value : {a c : Bool} → ok a ≡ ok c → a ≡ c
 value p = cc
 
@@ -78,16 +78,15 @@ abbrev is_ok : Res Bool → Bool
 is_ok (refuse n) = false
 is_ok (ok c) = true
 
-abbrev is_yes : Offered → Bool
-is_yes Unfit = false
-is_yes Yes = true
-is_yes No = false
+abbrev is_yes : Result Bool Refusal → Bool
+is_yes (Ok b) = b
+is_yes (Err e) = false
 
 module _ (r : RawSystem) (b : Book) (x : Holds r b) (k : ℤ) (w : List ℤ) where
-  said : (o : Offered) → offered_as o ≡ ok (offers_named (system_of r) k w) → ((o ≡ Yes) ↔ Permitted b k w) × ((o ≡ No) ↔ (Permitted b k w → ⊥))
-  said Unfit e = never (ap is_ok e)
-  said Yes e = let y = (offers-yes r b x k w).0 (sym (value e)) in ((λ z. y, λ h. refl), (λ z. never (sym (ap is_yes z)), λ h. absurd (h y)))
-  said No e = let n = (offers-no r b x k w).0 (sym (value e)) in ((λ z. never (ap is_yes z), λ h. absurd (n h)), (λ z. n, λ h. refl))
+  said : (o : Result Bool Refusal) → offered_as o ≡ ok (offers_named (system_of r) k w) → ((o ≡ Ok true) ↔ Permitted b k w) × ((o ≡ Ok false) ↔ (Permitted b k w → ⊥))
+  said (Err e) d = never (ap is_ok d)
+  said (Ok true) e = let y = (offers-yes r b x k w).0 (sym (value e)) in ((λ z. y, λ h. refl), (λ z. never (sym (ap is_yes z)), λ h. absurd (h y)))
+  said (Ok false) e = let n = (offers-no r b x k w).0 (sym (value e)) in ((λ z. never (ap is_yes z), λ h. absurd (n h)), (λ z. n, λ h. refl))
 
 made-by-state : (bytes : List ℕ) (f : Sheet) → Accepts bytes f → (s : State) (l : Transcript) → History f (raw_state s) l → (n : ℕ) → made_by n (system_in s).calls ≡ accepted_calls n l
 unfolding system_in

@@ -6,7 +6,7 @@ use Rattle.spec_model.specs.Refusals.{short_buffer}
 use Rattle.spec_sheet.specs.Text.{Written, write_text}
 use Rattle.spec_tiny.specs.Tiny.{tiny_text, tiny_bytes}
 use Rattle.spec_tiny.specs.Every.{Every}
-use Rattle.text_write.specs.declared.Wrote.{Wrote}
+use Rattle.text_write.specs.Written.{Wrote}
 use Rattle.text_write.specs.Written.{written_of, WrittenIs}
 use Rattle.theorem.specs.Scripted.{written_in}
 

@@ -1,7 +1,7 @@
 -- The theorem of a caller in Rattle: `ShownOfStates`. He reads a sheet, makes a state of it, and keeps the state, which is the bytes of its types and the `State` beside them.
 -- Whatever function he uses, by its contract alone, the state that he then holds is one of a history, so that `Shown` holds of it (L24); and what is answered is said by the
 -- book, which is made of what the caller sees (L25). Proof: proofs/OfStates.
-use Rattle.std.specs.Prelude.{◌≡◌, ◌↔◌, Bool, false, List, [], ◌∷◌, ◌++◌, ℕ, zero, suc, eqb, ℤ, pos, negsuc, length, get_or, drop}
+use Rattle.std.specs.Prelude.{◌≡◌, ◌↔◌, Result, Ok, Bool, true, false, List, [], ◌∷◌, ◌++◌, ℕ, zero, suc, eqb, ℤ, pos, negsuc, length, get_or, drop}
 use Rattle.std.proofs.Math.Bool.{So}
 use Rattle.std.proofs.Math.Option.{Option, none, some}
 use Rattle.spec_model.specs.Basics.{names, named}
@@ -11,11 +11,11 @@ use Rattle.spec_model.specs.Refusals.{calls_full}
 use Rattle.table_record.specs.Layout.{raw_table}
 use Rattle.spec_sheet.specs.Text.{write, write_text}
 use Rattle.sheet_read.specs.declared.Sheet.{Sheet}
-use Rattle.text_write.specs.declared.Wrote.{Wrote}
-use Rattle.text_write.specs.Written.{written_of}
+use Rattle.text_write.specs.Written.{Wrote, written_of}
 use Rattle.state_record.specs.Whole.{Whole as State}
 use Rattle.state_record.specs.Whole.{whole}
 use Rattle.state_record.specs.Meaning.{raw_state, system_in, state_loaded}
+use Rattle.base_numbers.specs.declared.refusal.Refusal.{Refusal}
 use Rattle.request_common.specs.Outcome.{Done as Served}
 use Rattle.request_common.specs.Outcome.{outcome_of}
 use Rattle.request_serve.specs.Serves.{Serves}
@@ -23,8 +23,6 @@ use Rattle.request_words.specs.Words.{requests, outcome_size}
 use Rattle.request_run.specs.Requested.{run_handed}
 use Rattle.request_run.specs.Ran.{Over as Ran}
 use Rattle.request_run.specs.Ran.{room, Runs}
-use Rattle.state_offers.specs.declared.Offered.{Offered}
-use Rattle.state_offers.specs.declared.Offered.TheVariants.{Yes, No}
 use Rattle.state_offers.specs.Chained.{offers_handed, offered_as}
 use Rattle.theorem.specs.Shown.{Accepts, book_of, History, Permitted}
 
@@ -68,8 +66,8 @@ pub record OfStates (bytes : List ℕ) (f : Sheet) : Type 0 where
       → (before behind : List (Option Request)) (subject k m : ℤ) (vs : List ℤ) → requests (room old) words ≡ before ++ (some (call subject k m vs) ∷ behind)
       → (n : ℕ) → first_word (length before) new ≡ pos n → refused_before (refused n) ≡ false → (n ≡ calls_full) ↔ (accepted_calls (named subject) (l ++ seen_by before new) ≡ max_calls_each)
   -- Offers says yes exactly where the page of that cell, its class and all of its trail, permits the chain, and else no (L26).
-  pub offers : (s : State) (l : Transcript) (k : ℤ) (w : List ℤ) (o : Offered) → History f (raw_state s) l → offered_as o ≡ offers_handed (raw_state s) k w
-      → ((o ≡ Yes) ↔ Permitted (book_of f l) k w) × ((o ≡ No) ↔ (Permitted (book_of f l) k w → ⊥))
+  pub offers : (s : State) (l : Transcript) (k : ℤ) (w : List ℤ) (o : Result Bool Refusal) → History f (raw_state s) l → offered_as o ≡ offers_handed (raw_state s) k w
+      → ((o ≡ Ok true) ↔ Permitted (book_of f l) k w) × ((o ≡ Ok false) ↔ (Permitted (book_of f l) k w → ⊥))
   -- Sheet write gives the bytes back that were read (W9), into any buffer that has room for them (W2 to W4): no derived type is written (W5).
   pub writes : (s : State) (l : Transcript) (w : Wrote) (old new : List ℕ) → History f (raw_state s) l → written_of w new ≡ write (raw_table s.types s.links s.counts) old
       → written_of w new ≡ write_text bytes old

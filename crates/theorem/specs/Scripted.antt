@@ -20,7 +20,7 @@ use Rattle.spec_sheet.specs.Sheet.{malformed, loaded, read}
 use Rattle.script_read_request.specs.Asked.{request_line}
 use Rattle.script_write_outcome.specs.Outcomes.{outcome_text}
 use Rattle.script_output.specs.Output.{max_input, max_longer, sheet_part, request_part, asked, script_output}
-use Rattle.text_write.specs.declared.Wrote.{Wrote}
+use Rattle.text_write.specs.Written.{Wrote}
 use Rattle.text_write.specs.Written.{written_of, WrittenIs}
 use Rattle.theorem.specs.Shown.{Permitted}
 

@@ -15,17 +15,17 @@ use Rattle.export_requests.proofs.serve_bytes.Goals as goal
 
 pub returns-then-not-codes_fit : goal.returns-then-not-codes_fit
 returns-then-not-codes_fit c q e = let a = c.args in
-    request-unfit (flat a.types.now a.links.now a.cells.now a.places.now a.calls.now a.counts.now) q a.values.now _ c.codes_fit.ensures (ap not c.if-not-codes_fit.true)
+    rw c.number.ensures (request-unfit (flat a.types.now a.links.now a.cells.now a.places.now a.calls.now a.counts.now) q a.values.now _ c.codes_fit.ensures (ap not c.if-not-codes_fit.true))
 
 pub hand_back-requires : goal.hand_back-requires
 hand_back-requires c =
     let a = c.args in
-    asked-small (whole a.types.now c.state_from-s.result) (by_code a.code a.ops.now) (done c.serve-r.new.types c.serve-r.result) c.serve-r.ensures
+    asked-small (whole a.types.now c.state_from-s.result) (by_code a.code a.ops.now) (done c.serve-r.new.types c.serve-r.new.s c.serve-r.result) c.serve-r.ensures
 
 pub returns : goal.returns
 returns c q e =
     let a = c.args in
     let f = flat a.types.now a.links.now a.cells.now a.places.now a.calls.now a.counts.now in
-    let w = subst (λ (x : Option Request). ServesAsked (whole a.types.now c.state_from-s.result) x (done c.serve-r.new.types c.serve-r.result)) e c.serve-r.ensures in
+    let w = subst (λ (x : Option Request). ServesAsked (whole a.types.now c.state_from-s.result) x (done c.serve-r.new.types c.serve-r.new.s c.serve-r.result)) e c.serve-r.ensures in
     request-handed f q a.values.now _ c.codes_fit.ensures (ap not c.if-not-codes_fit.false)
-    (whole a.types.now c.state_from-s.result) (c.state_from-s.ensures a.types.now) (done c.serve-r.new.types c.serve-r.result) w _ _ _ refl (c.hand_back.ensures c.serve-r.new.types a.links.now)
+    (whole a.types.now c.state_from-s.result) (c.state_from-s.ensures a.types.now) (done c.serve-r.new.types c.serve-r.new.s c.serve-r.result) w _ _ _ refl (c.hand_back.ensures c.serve-r.new.types a.links.now)
