@@ -22,9 +22,17 @@ pub extern "C" fn pilgonca_read(
     ensures { sheet_of result at.new types.new links.new (counts_in counts.new)
         ≡ sheet_for (read_sheet text.now) }
 {
-    let r = sheet_read::read_into(text, types, links);
-    let c = r.counts;
-    *counts = [c.subjects, c.methods, c.cats, c.sheet, c.types];
-    *at = r.at;
-    r.refusal
+    // Kept: the C interface, which tells a refusal by its number and its line by an offset.
+    match sheet_read::read_into(text, types, links) {
+        Ok(c) => {
+            *counts = [c.subjects, c.methods, c.cats, c.sheet, c.types];
+            *at = 0;
+            0
+        }
+        Err(e) => {
+            *counts = [0; 5];
+            *at = e.at;
+            e.refusal.number()
+        }
+    }
 }

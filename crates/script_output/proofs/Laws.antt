@@ -23,6 +23,8 @@ use Rattle.request_by_code.proofs.Laws.{outcome-is, after_is}
 use Rattle.text_cursor.specs.View.{LineAt, past}
 use Rattle.text_write.specs.Fill.{Lined}
 use Rattle.text_write.proofs.Laws.{lines_none, lines_rest, lines_are}
+use Rattle.std.specs.Prelude.{Option as Maybe}
+use Rattle.std.specs.Option.{is_some}
 use Rattle.script_read_request.specs.declared.Asked.{Asked}
 use Rattle.script_read_request.specs.Asked.{request_line}
 use Rattle.script_read_request.specs.Read.{asked_as, Reads}
@@ -54,19 +56,19 @@ module _ (x : System) (s : List ℕ) (at : ℕ) (l : List ℕ) (h : LineAt s at 
   lines_more q e = ap (lines_from x) (line-some s at l h k (asks-some l q e)) ∙ ap (lines_by x (λ y. lines_from y (split (drop (at + (length l + 1)) s)))) e
 
 -- ---- Where the cursor stands behind a line that asks something: behind its LF.
-module _ (rest : List ℕ) (at : ℕ) (l : List ℕ) (h : LineAt rest at l) (k : at < length rest) (q : Asked) (a : Reads (request_line l) q) (d : ℕ) (n : d ≡ past at (split (drop at rest))) where
-  pub passed-line : cond q.right d (length rest) ≡ cond q.right (at + (length l + 1)) (length rest)
+module _ (rest : List ℕ) (at : ℕ) (l : List ℕ) (h : LineAt rest at l) (k : at < length rest) (q : Maybe Asked) (a : Reads (request_line l) q) (d : ℕ) (n : d ≡ past at (split (drop at rest))) where
+  pub passed-line : cond (is_some q) d (length rest) ≡ cond (is_some q) (at + (length l + 1)) (length rest)
   passed-line = go (request_line l) refl
     where
-      go : (o : Option Request) → request_line l ≡ o → cond q.right d (length rest) ≡ cond q.right (at + (length l + 1)) (length rest)
+      go : (o : Option Request) → request_line l ≡ o → cond (is_some q) d (length rest) ≡ cond (is_some q) (at + (length l + 1)) (length rest)
       go none e =
-          let w : q.right ≡ false = a.right ∙ ap (λ z. not (is_none z)) e in
+          let w : is_some q ≡ false = a.some ∙ ap (λ z. not (is_none z)) e in
           ap (λ z. cond z d (length rest)) w ∙ sym (ap (λ z. cond z (at + (length l + 1)) (length rest)) w)
-      go (some y) e = ap (λ z. cond q.right z (length rest)) (n ∙ ap (past at) (line-some rest at l h k (asks-some l y e)))
+      go (some y) e = ap (λ z. cond (is_some q) z (length rest)) (n ∙ ap (past at) (line-some rest at l h k (asks-some l y e)))
 
 -- ---- A turn: the line at `at` is read and served, and the next one begins where the code says.
-module _ (s : State) (rest : List ℕ) (at : ℕ) (l : List ℕ) (h : LineAt rest at l) (k : at < length rest) (q : Asked) (a : Reads (request_line l) q)
-    (r : Served) (t : Step s (serve_asked (system_in s) (asked_as q)) r) (next : ℕ) (n : next ≡ cond q.right (at + (length l + 1)) (length rest)) where
+module _ (s : State) (rest : List ℕ) (at : ℕ) (l : List ℕ) (h : LineAt rest at l) (k : at < length rest) (q : Maybe Asked) (a : Reads (request_line l) q)
+    (r : Served) (t : Step s (serve_asked (system_in s) (asked_as q)) r) (next : ℕ) (n : next ≡ cond (is_some q) (at + (length l + 1)) (length rest)) where
   pub turn : lines_from (system_in s) (split (drop at rest)) ≡ outcome_text (outcome_of r.outcome) ∷ lines_from (system_in r.state) (split (drop next rest))
   unfolding lines_from serve_asked outcome_text split
   turn = go (request_line l) refl
@@ -76,7 +78,7 @@ module _ (s : State) (rest : List ℕ) (at : ℕ) (l : List ℕ) (h : LineAt res
       go none e =
           let m : serve_asked (system_in s) (asked_as q) ≡ refuse form = ap (serve_asked (system_in s)) (a.is ∙ e) in
           let o : refused form ≡ outcome_of r.outcome = ap outcome (sym m) ∙ outcome-is s _ r t in
-          let w : q.right ≡ false = a.right ∙ ap (λ z. not (is_none z)) e in
+          let w : is_some q ≡ false = a.some ∙ ap (λ z. not (is_none z)) e in
           let d : drop next rest ≡ [] = ap (λ z. drop z rest) (n ∙ ap (λ z. cond z (at + (length l + 1)) (length rest)) w) ∙ drop_of_length-le rest {i = length rest} (omega arith) in
           lines_end (system_in s) rest at l h k e ∙ ap (λ z. outcome_text z ∷ []) o
           ∙ ap (λ z. outcome_text (outcome_of r.outcome) ∷ lines_from (system_in r.state) (split z)) (sym d)
@@ -84,7 +86,7 @@ module _ (s : State) (rest : List ℕ) (at : ℕ) (l : List ℕ) (h : LineAt res
           let m : serve_asked (system_in s) (asked_as q) ≡ serve (system_in s) y = ap (serve_asked (system_in s)) (a.is ∙ e) in
           let o : outcome (serve (system_in s) y) ≡ outcome_of r.outcome = ap outcome (sym m) ∙ outcome-is s _ r t in
           let f : after (system_in s) (serve (system_in s) y) ≡ system_in r.state = ap (after (system_in s)) (sym m) ∙ after_is s _ r t in
-          let w : q.right ≡ true = a.right ∙ ap (λ z. not (is_none z)) e in
+          let w : is_some q ≡ true = a.some ∙ ap (λ z. not (is_none z)) e in
           let d : at + (length l + 1) ≡ next = sym (n ∙ ap (λ z. cond z (at + (length l + 1)) (length rest)) w) in
           lines_more (system_in s) rest at l h k y e
           ∙ ap (λ z. outcome_text z ∷ lines_from (after (system_in s) (serve (system_in s) y)) (split (drop (at + (length l + 1)) rest))) o
@@ -92,7 +94,7 @@ module _ (s : State) (rest : List ℕ) (at : ℕ) (l : List ℕ) (h : LineAt res
           ∙ ap (λ z. outcome_text (outcome_of r.outcome) ∷ lines_from (system_in r.state) (split (drop z rest))) d
 
   pub next-behind : (at < next) × (next ≤ length rest)
-  next-behind = let w = line-within rest at l h k in go q.right n w
+  next-behind = let w = line-within rest at l h k in go (is_some q) n w
     where
       go : (b : Bool) → next ≡ cond b (at + (length l + 1)) (length rest) → at + length l < length rest → (at < next) × (next ≤ length rest)
       go true e w = let f : next ≡ at + (length l + 1) = e in (omega arith, omega arith)
@@ -112,8 +114,8 @@ module _ (s₀ : State) (rest old : List ℕ) where
   going-starts h = record { lines = []; lined = lines_none old; left = refl; sound = h; few = omega arith; within = omega arith }
 
   module _ (s : State) (cur : List ℕ) (w at : ℕ) (g : Going s₀ rest old s cur w at) where
-    pub going_on : (l : List ℕ) (h : LineAt rest at l) (k : at < length rest) (q : Asked) (a : Reads (request_line l) q) (r : Served) (t : Step s (serve_asked (system_in s) (asked_as q)) r)
-        (next : ℕ) (n : next ≡ cond q.right (at + (length l + 1)) (length rest)) {tl : List ℕ} {b i : ℕ} → i ≡ min w (length cur)
+    pub going_on : (l : List ℕ) (h : LineAt rest at l) (k : at < length rest) (q : Maybe Asked) (a : Reads (request_line l) q) (r : Served) (t : Step s (serve_asked (system_in s) (asked_as q)) r)
+        (next : ℕ) (n : next ≡ cond (is_some q) (at + (length l + 1)) (length rest)) {tl : List ℕ} {b i : ℕ} → i ≡ min w (length cur)
         → Lined (mid_of i (length cur - i) cur) tl (outcome_text (outcome_of r.outcome) ∷ []) b → b ≤ 73 → Going s₀ rest old r.state (put_mid i (length cur - i) cur tl) (w + b) next
     going_on l h k q a r t next n i f c =
         let x : List ℕ = outcome_text (outcome_of r.outcome) in

@@ -7,18 +7,18 @@ use Rattle.request_common.specs.Served.{done}
 use Rattle.script_output.proofs.serve_lines.Goals as goal
 
 pub loop-at-init : goal.loop-at-init
-loop-at-init c = let a = c.args in going-starts (whole a.types.now a.s) a.rest.now a.buf.now c.requires.0
+loop-at-init c = let a = c.args in going-starts (whole a.types.now a.s.now) a.rest.now a.buf.now c.requires.0
 
 pub between-l-requires : goal.between-l-requires
 between-l-requires c = c.next_line-d.ensures
 
-pub serve_asked-r-requires : goal.serve_asked-r-requires
-serve_asked-r-requires c = let q = c.read_request-q.ensures in (c.loop-at.invariant.sound, q.count, q.items)
+pub serve_asked-outcome-requires : goal.serve_asked-outcome-requires
+serve_asked-outcome-requires c = (c.loop-at.invariant.sound, c.read_request-q.ensures.within)
 
 pub overflow_add-written : goal.overflow_add-written
 overflow_add-written c =
     let inv = c.loop-at.invariant in
-    record { fits = omega (arith, inv.few, inv.within, c.write_outcome-more.ensures.few, c.requires.1) }
+    record { fits = omega (arith, inv.few, inv.within, c.write_outcome.ensures.few, c.requires.1) }
 
 pub loop-at-smaller : goal.loop-at-smaller
 loop-at-smaller c =
@@ -27,10 +27,10 @@ loop-at-smaller c =
     let h = c.between-l.ensures in
     let k = c.loop-at-test.true in
     let q = c.read_request-q in
-    let s = whole loop.types loop.r.state in
-    let r = c.serve_asked-r in
+    let s = whole loop.types loop.s in
+    let r = c.serve_asked-outcome in
     let n = c.behind-at.ensures ∙ passed-line rest loop.at _ h k q.result q.ensures _ c.next_line-d.ensures in
-    let u = next-behind s rest loop.at _ h k q.result q.ensures (done r.new.types r.result) r.ensures c.behind-at.result n in
+    let u = next-behind s rest loop.at _ h k q.result q.ensures (done r.new.types r.new.s r.result) r.ensures c.behind-at.result n in
     omega (arith, u.0, u.1)
 
 pub loop-at-preserved : goal.loop-at-preserved
@@ -40,13 +40,13 @@ loop-at-preserved c =
     let h = c.between-l.ensures in
     let k = c.loop-at-test.true in
     let q = c.read_request-q in
-    let s = whole loop.types loop.r.state in
-    let r = c.serve_asked-r in
+    let s = whole loop.types loop.s in
+    let r = c.serve_asked-outcome in
     let n = c.behind-at.ensures ∙ passed-line a.rest.now loop.at _ h k q.result q.ensures _ c.next_line-d.ensures in
-    let f = c.write_outcome-more.ensures in
-    going_on (whole a.types.now a.s) a.rest.now a.buf.now s loop.buf loop.written loop.at loop.invariant _ h k q.result q.ensures
-    (done r.new.types r.result) r.ensures
-    c.behind-at.result n c.least-k.ensures.0 f.is f.few
+    let f = c.write_outcome.ensures in
+    going_on (whole a.types.now a.s.now) a.rest.now a.buf.now s loop.buf loop.written loop.at loop.invariant _ h k q.result q.ensures
+    (done r.new.types r.new.s r.result) r.ensures
+    c.behind-at.result n c.min-k.ensures f.is f.few
 
 pub returns : goal.returns
 returns c =
@@ -54,6 +54,6 @@ returns c =
     let loop = c.loop-at in
     let inv = loop.invariant in
     record {
-      is = going_done (whole a.types.now a.s) a.rest.now a.buf.now (whole loop.types loop.r.state) loop.buf loop.written loop.at inv c.loop-at-test.false;
+      is = going_done (whole a.types.now a.s.now) a.rest.now a.buf.now (whole loop.types loop.s) loop.buf loop.written loop.at inv c.loop-at-test.false;
       few = omega (arith, inv.few, inv.within, c.requires.1);
     }
