@@ -41,9 +41,6 @@ pub as-rising : (xs : List ℕ) → length xs ≤ max_times → (b : Bool) → r
 as-rising xs h b e = rw (le-leb (length xs) max_times h, e)
 
 -- ---- The pass over both: n pairs were made, and what is left has the others
-pub before-all : (within : ℕ) (marks arrivals : List ℕ) → pairs_of within marks arrivals ≡ 0 + left within marks arrivals 0 0
-before-all within marks arrivals = omega arith
-
 module _ (within : ℕ) (marks arrivals : List ℕ) (i j n : ℕ) (inv : pairs_of within marks arrivals ≡ n + left within marks arrivals i j) where
   ended : left within marks arrivals i j ≡ 0 → n ≡ pairs_of within marks arrivals
   ended z = omega (arith, inv, z)

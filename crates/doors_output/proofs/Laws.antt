@@ -8,7 +8,7 @@ use lib.Dec.{leb}
 use lib.ListN.{length, take}
 use borrow.Author.Tests.{lt-ltb, le-ltb}
 use Rattle.spec_model.specs.Basics.{Res, refuse, ok, need}
-use Rattle.spec_model.specs.Refusals.{form, unfit_times}
+use Rattle.spec_model.specs.Refusals.{unfit_times}
 use Rattle.spec_sheet.specs.Lines.{bytes, split, join, Reading}
 use Rattle.spec_sheet.specs.Text.{max_input}
 use Rattle.spec_doors.specs.Times.{max_times, max_tolerance, times_fit}
@@ -33,28 +33,24 @@ and-false : (b : Bool) → (b && false) ≡ false
 and-false true = refl
 and-false false = refl
 
-module _ (R : Reading Input) (marks arrivals : List ℕ) where
-  pub wrong-form : InputRead R marks arrivals None → refuse form ≡ held_in R
-  wrong-form h = sym (ap held_in h.1)
+module _ (R : Reading Input) (marks arrivals : List ℕ) (x : Read) (whole : InputRead R marks arrivals (Some x)) where
+  pub many-marks : max_times < x.marks → refuse unfit_times ≡ held_in R
+  many-marks k =
+      let i = whole.input in
+      let e : false ≡ times_fit i.marks = too-many i.marks (omega (arith, whole.marks.count)) in
+      unfit i.marks i.arrivals i.within (ap (λ b. b && times_fit i.arrivals) (sym e)) ∙ sym (ap held_in whole.is)
 
-  module _ (x : Read) (whole : InputRead R marks arrivals (Some x)) where
-    pub many-marks : max_times < x.marks → refuse unfit_times ≡ held_in R
-    many-marks k =
-        let i = whole.input in
-        let e : false ≡ times_fit i.marks = too-many i.marks (omega (arith, whole.marks.count)) in
-        unfit i.marks i.arrivals i.within (ap (λ b. b && times_fit i.arrivals) (sym e)) ∙ sym (ap held_in whole.is)
+  pub many-arrivals : max_times < x.arrivals → refuse unfit_times ≡ held_in R
+  many-arrivals k =
+      let i = whole.input in
+      let e : false ≡ times_fit i.arrivals = too-many i.arrivals (omega (arith, whole.arrivals.count)) in
+      unfit i.marks i.arrivals i.within (ap (λ b. times_fit i.marks && b) (sym e) ∙ and-false (times_fit i.marks)) ∙ sym (ap held_in whole.is)
 
-    pub many-arrivals : max_times < x.arrivals → refuse unfit_times ≡ held_in R
-    many-arrivals k =
-        let i = whole.input in
-        let e : false ≡ times_fit i.arrivals = too-many i.arrivals (omega (arith, whole.arrivals.count)) in
-        unfit i.marks i.arrivals i.within (ap (λ b. times_fit i.marks && b) (sym e) ∙ and-false (times_fit i.marks)) ∙ sym (ap held_in whole.is)
-
-    pub lists-held : x.marks ≤ max_times → x.arrivals ≤ max_times → held (take x.marks marks) (take x.arrivals arrivals) x.within ≡ held_in R
-    lists-held k l =
-        let i = whole.input in
-        ap (held (take x.marks marks) (take x.arrivals arrivals)) (sym whole.within) ∙ ap (λ ms. held ms (take x.arrivals arrivals) i.within) (whole.marks.there k)
-        ∙ ap (λ xs. held i.marks xs i.within) (whole.arrivals.there l) ∙ sym (ap held_in whole.is)
+  pub lists-held : x.marks ≤ max_times → x.arrivals ≤ max_times → held (take x.marks marks) (take x.arrivals arrivals) x.within ≡ held_in R
+  lists-held k l =
+      let i = whole.input in
+      ap (held (take x.marks marks) (take x.arrivals arrivals)) (sym whole.within) ∙ ap (λ ms. held ms (take x.arrivals arrivals) i.within) (whole.marks.there k)
+      ∙ ap (λ xs. held i.marks xs i.within) (whole.arrivals.there l) ∙ sym (ap held_in whole.is)
 
 -- ---- What is printed
 module _ (s : List ℕ) where

@@ -88,7 +88,7 @@ fn serve_lines(buf: &mut [u8], types: &mut [u8; TYPE_BYTES], s: &mut State, rest
     ensures is { Lined buf.old buf.new (lines_from (system_in (whole types.old s.old)) (split rest.now)) result }
     ensures few { result ≤ 2392064 }
 {
-    let mut written = 0;
+    let mut written: usize = 0;
     let mut at = 0;
     // Kept: no count; each line says where the next one begins.
     while at < rest.len() {

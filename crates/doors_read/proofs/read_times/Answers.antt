@@ -15,9 +15,6 @@ read c = record { is = c.in_ok-x.ensures.is; inside = c.in_ok-x.ensures.within.0
 short : (c : After-store) → (next c ≡ length c.args.l.now → ⊥) → next c < length c.args.l.now
 short c h = omega (arith, (read c).inside, h)
 
-stays : (c : After-store) → length c.store.new.items ≡ max_times
-stays c = same_size c.loop-x.items c.loop-x.n c.in_ok-x.x _ c.store.ensures c.loop-x.invariant.size
-
 pub returns-then-is_empty-clause-is : goal.returns-then-is_empty-clause-is
 returns-then-is_empty-clause-is c = let e : length c.args.l.now ≡ 0 = search rules in empty-line _ _ e
 

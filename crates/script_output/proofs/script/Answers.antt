@@ -5,11 +5,11 @@ use Rattle.text_write.proofs.Written.{fits-is, short-is, length-is}
 use Rattle.script_output.proofs.Buffer.{enough}
 use Rattle.script_output.proofs.script.Goals as goal
 
-pub returns-then-least-buf : goal.returns-then-least-buf
-returns-then-least-buf c =
+pub returns-then-min-buf : goal.returns-then-min-buf
+returns-then-min-buf c =
     let s = c.args.s.now in
     let buf = c.args.buf.now in
-    let k = enough s _ (length buf) c.least.ensures.0 c.if-least-buf.true in
+    let k = enough s _ (length buf) c.min.ensures c.if-min-buf.true in
     fits-is (script_output s) buf k c.put_script.ensures
 
 pub returns-then-buf-need : goal.returns-then-buf-need

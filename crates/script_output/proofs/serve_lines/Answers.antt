@@ -1,5 +1,5 @@
 -- A turn of the loop reads a line, serves it and writes its answer (`going_on`); what is left at the end is nothing (`going_done`).
-use mathlib.Core.Path.{◌∙◌}
+use Rattle.std.proofs.Common.{ap, ◌∙◌, cond, length}
 use native.Mathlib.Omega.{arith}
 use Rattle.script_output.proofs.Laws.{going-starts, going_on, going_done, next-behind, passed-line}
 use Rattle.state_record.specs.Whole.{whole}
@@ -18,7 +18,7 @@ serve_asked-outcome-requires c = (c.loop-at.invariant.sound, c.read_request-q.en
 pub overflow_add-written : goal.overflow_add-written
 overflow_add-written c =
     let inv = c.loop-at.invariant in
-    record { fits = omega (arith, inv.few, inv.within, c.write_outcome.ensures.few, c.requires.1) }
+    record { fits = omega (arith, inv.few, inv.within, c.write_outcome-written.ensures.few, c.requires.1) }
 
 pub loop-at-smaller : goal.loop-at-smaller
 loop-at-smaller c =
@@ -29,7 +29,7 @@ loop-at-smaller c =
     let q = c.read_request-q in
     let s = whole loop.types loop.s in
     let r = c.serve_asked-outcome in
-    let n = c.behind-at.ensures ∙ passed-line rest loop.at _ h k q.result q.ensures _ c.next_line-d.ensures in
+    let n = c.behind-at.ensures ∙ ap (λ z. cond z c.next_line-d.result.at (length rest)) c.is_some-asks.ensures ∙ passed-line rest loop.at _ h k q.result q.ensures _ c.next_line-d.ensures in
     let u = next-behind s rest loop.at _ h k q.result q.ensures (done r.new.types r.new.s r.result) r.ensures c.behind-at.result n in
     omega (arith, u.0, u.1)
 
@@ -42,8 +42,8 @@ loop-at-preserved c =
     let q = c.read_request-q in
     let s = whole loop.types loop.s in
     let r = c.serve_asked-outcome in
-    let n = c.behind-at.ensures ∙ passed-line a.rest.now loop.at _ h k q.result q.ensures _ c.next_line-d.ensures in
-    let f = c.write_outcome.ensures in
+    let n = c.behind-at.ensures ∙ ap (λ z. cond z c.next_line-d.result.at (length a.rest.now)) c.is_some-asks.ensures ∙ passed-line a.rest.now loop.at _ h k q.result q.ensures _ c.next_line-d.ensures in
+    let f = c.write_outcome-written.ensures in
     going_on (whole a.types.now a.s.now) a.rest.now a.buf.now s loop.buf loop.written loop.at loop.invariant _ h k q.result q.ensures
     (done r.new.types r.new.s r.result) r.ensures
     c.behind-at.result n c.min-k.ensures f.is f.few
