@@ -18,7 +18,7 @@ use Rattle.spec_doors.specs.Output.{held_text, held_in, doors_output}
 use Rattle.doors_hold.proofs.Laws.{too-many}
 use Rattle.doors_read.specs.View.{InputRead}
 use Rattle.doors_read.specs.declared.Read.{Read}
-use Rattle.std.specs.Prelude.{Some, None}
+use Rattle.std.specs.Prelude.{Some}
 
 -- ---- The result
 unfit : (ms xs : List ℕ) (w : ℕ) → (times_fit ms && times_fit xs) ≡ false → refuse unfit_times ≡ held ms xs w

@@ -1,6 +1,5 @@
 use Rattle.std.proofs.Common.{◌≡◌, ℕ, ◌<◌, length, arith, rules, None}
-use Rattle.spec_doors.specs.Times.{max_times}
-use Rattle.doors_read.proofs.Laws.{same_size, Scanned, empty-line, begin, no_number, onward, no-space, last, again}
+use Rattle.doors_read.proofs.Laws.{Scanned, empty-line, begin, no_number, onward, no-space, last, again}
 use Rattle.doors_read.proofs.read_times.Goals as goal
 use Rattle.doors_read.proofs.read_times.Goals.{After-store}
 

@@ -1,6 +1,6 @@
 -- The C function answers as `state_offers::offers` does; on 2 the answer's place is as it was.
 use mir.Facts.{to_z-of_z}
-use mathlib.Core.Path.{◌≡◌, refl, ap, ◌∙◌}
+use mathlib.Core.Path.{◌≡◌, ap, ◌∙◌}
 use mathlib.Core.Bool.{Bool, true, false}
 use mir.Val.{bool_byte}
 use Prim.Native.Nat.{ℕ}
