@@ -3,7 +3,7 @@ use Rattle.text_write.proofs.Written.{wrote-within}
 use Rattle.script.proofs.main.Goals as goal
 
 pub slice_bounds-out-end : goal.slice_bounds-out-end
-slice_bounds-out-end c = (wrote-within c.script-w.result c.in-Length.length _ _ _ c.in-Length.is c.script-w.ensures).0
+slice_bounds-out-end c = (wrote-within c.script.result c.in-Ok-script.length _ _ _ c.in-Ok-script.is c.script.ensures).0
 
 pub slice_bounds-print-end : goal.slice_bounds-print-end
-slice_bounds-print-end c = (wrote-within c.script-w.result c.in-Length.length _ _ _ c.in-Length.is c.script-w.ensures).1
+slice_bounds-print-end c = (wrote-within c.script.result c.in-Ok-script.length _ _ _ c.in-Ok-script.is c.script.ensures).1
