@@ -273,7 +273,7 @@ fn every_number_is_the_sources() {
         assert_eq!(found, Some(ours), "{called}");
     }
     let words = numbers.remove("PILGONCA_ANSWER_WORDS");
-    assert_eq!(words, Some(constant("request_run", "WORDS")));
+    assert_eq!(words, Some(constant("request_words", "OUTCOME")));
     let version = numbers.remove("PILGONCA_STATE_VERSION");
     assert_eq!(version, Some(usize::from(saved::VERSION)));
     // the rest are lengths of arrays, which are held against the functions
