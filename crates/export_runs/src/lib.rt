@@ -2,10 +2,13 @@
 // run of requests, for any bytes and any numbers.
 #![tactic(auto)]
 
-ghost use Rattle.std.specs.Prelude.{◌≡◌, ℕ};
+ghost use Rattle.std.specs.Prelude.{◌≡◌, List, ℕ};
 ghost use Rattle.spec_sheet.specs.Sheet.{read as read_sheet};
+ghost use Rattle.state_record.specs.Whole.{whole};
+ghost use Rattle.state_record.specs.View.{state_loaded};
 ghost use Rattle.state_bytes.specs.Flat.{flat, raw_flat, cells_size, places_size, calls_size};
 ghost use Rattle.state_offers.specs.Chained.{offers_handed, offered_as};
+ghost use Rattle.request_results.specs.Stored.{Stored};
 ghost use Rattle.request_run.specs.Requested.{run_handed};
 ghost use Rattle.request_run.specs.Ran.{room};
 ghost use Rattle.export_runs.specs.Results.{found_out, offered_out, no_bytes, LoadedIs, lent_run, RunsOut};
@@ -21,6 +24,24 @@ fn clear(cells: &mut [u8; CELL_BYTES], places: &mut [u8; PLACE_BYTES], calls: &m
     *cells = [0u8; CELL_BYTES];
     *places = [0u8; PLACE_BYTES];
     *calls = [0u8; CALL_BYTES];
+}
+
+// The state of a loaded sheet (Q10), stored. It stays a function by itself, so that the state stands on the stack once and not for each way that a reading ends.
+#[inline(never)]
+fn store_loaded(
+    links: &[u8; LINK_BYTES],
+    c: Counts,
+    cells: &mut [u8; CELL_BYTES],
+    places: &mut [u8; PLACE_BYTES],
+    calls: &mut [u8; CALL_BYTES],
+    counts: &mut [usize; 8],
+)
+    ensures { (t l : List ℕ)
+        → Stored (whole t (state_loaded links.now c)) (flat t l cells.old places.old calls.old counts.old)
+        (flat t l cells.new places.new calls.new counts.new) }
+{
+    let s = State::loaded(*links, c);
+    request_results::store(&s, cells, places, calls, counts);
 }
 
 // Sheet read (S) of any bytes, and the state of a loaded sheet (Q10): as `pilgonca_read`, with no cells, places or calls and every byte of theirs 0.
@@ -40,14 +61,12 @@ pub fn pilgonca_load(
     clear(cells, places, calls);
     match sheet_read::read_into(text, types, links) {
         Ok(c) => {
-            let s = State::loaded(*links, c);
-            request_results::store(&s, cells, places, calls, counts);
+            store_loaded(links, c, cells, places, calls, counts);
             *at = 0;
             0
         }
         Err(e) => {
-            let s = State::loaded(*links, Counts::empty());
-            request_results::store(&s, cells, places, calls, counts);
+            store_loaded(links, Counts::empty(), cells, places, calls, counts);
             *at = e.at;
             e.refusal.number()
         }

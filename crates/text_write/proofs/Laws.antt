@@ -2,11 +2,12 @@
 use mathlib.Core.Path.{◌≡◌, refl, sym, ap, ◌∙◌, subst}
 use mathlib.Core.Bool.{Bool, true, false, cond}
 use mathlib.Core.List.{List, [], ◌∷◌, ◌++◌, append_assoc, append-nil}
-use Prim.Native.Nat.{ℕ, zero, suc, ◌+◌, ◌-◌, ◌/◌, ◌%◌, ◌≤◌, min}
+use Prim.Native.Nat.{ℕ, zero, suc, ◌+◌, ◌-◌, ◌/◌, ◌%◌, ◌≤◌, ◌<◌, min}
 use native.Mathlib.Omega.{arith}
+use native.Mathlib.Numerals.{add-one}
 use lib.Dec.{ltb}
-use lib.ListN.{length, take, drop, length-append, length-drop, drop_of_length-le}
-use lib.Seq.{take-append_seam, drop-append_seam, drop-drop, length-take-le, take_all}
+use lib.ListN.{length, get_or, set, take, drop, length-append, length-drop, drop_of_length-le}
+use lib.Seq.{take-append_seam, drop-append_seam, drop-drop, length-take-le, take_all, take-suc, drop-cons, set_at}
 use borrow.Rule.Slice.PartMut.{mid_of, put_mid}
 use Rattle.spec_sheet.specs.Lines.{join}
 use Rattle.spec_sheet.specs.Numbers.{decimal_in, decimal}
@@ -16,6 +17,23 @@ use Rattle.text_write.specs.Fill.{Filled, Lined}
 
 pub fill_none : (l : List ℕ) → Filled l l [] 0
 fill_none l = record { said = refl; size = refl; text = λ _. refl }
+
+-- a copy, byte by byte
+pub copy-next : (b t : List ℕ) (i : ℕ) → i < length t → length t ≤ length b → set (take i t ++ drop i b) i (get_or t i 0) ≡ take (i + 1) t ++ drop (i + 1) b
+copy-next b t i h k =
+    ap (λ z. set (take i t ++ z) i (get_or t i 0)) (drop-cons b i 0 (omega arith))
+    ∙ set_at (take i t) (get_or b i 0) (drop (suc i) b) (get_or t i 0) i (length-take-le i t (omega arith))
+    ∙ sym (append_assoc (take i t) (get_or t i 0 ∷ []) (drop (suc i) b))
+    ∙ ap (λ z. z ++ drop (suc i) b) (sym (take-suc t i 0 h))
+    ∙ ap (λ z. take z t ++ drop z b) (sym (add-one i))
+
+pub copy-all : (b t new : List ℕ) (i : ℕ) → i ≤ length t → length t ≤ i → length t ≤ length b → new ≡ take i t ++ drop i b → Filled b new t (length t)
+copy-all b t new i a h k e =
+    let q : i ≡ length t = omega arith in
+    let w : new ≡ t ++ drop (length t) b = e ∙ ap (λ z. take z t ++ drop z b) q ∙ ap (λ z. z ++ drop (length t) b) (take_all (length t) t (omega arith)) in
+    let s : length (t ++ drop (length t) b) ≡ length t + length (drop (length t) b) = length-append t (drop (length t) b) in
+    let d : length (drop (length t) b) ≡ length b - length t = length-drop (length t) b in
+    record { said = refl; size = ap length w ∙ omega arith; text = λ _. w }
 
 -- a second filling, of the rest
 fill_more : (old mid tl new xs ys : List ℕ) (a b k : ℕ) → Filled old mid xs a → k ≡ min a (length mid) → Filled (drop k mid) tl ys b → new ≡ take k mid ++ tl

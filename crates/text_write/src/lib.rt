@@ -56,7 +56,9 @@ pub fn put_bytes(buf: &mut [u8], t: &[u8]) -> usize
 {
     let n = t.len();
     if n <= buf.len() {
-        buf[..n].copy_from_slice(t);
+        for i in 0..n {
+            buf[i] = t[i];
+        }
     }
     n
 }
