@@ -11,11 +11,11 @@ ghost use Rattle.table_record.specs.Store.{kind_is, option_of, types_in, types_t
 ghost use Rattle.table_record.specs.declared.Kind.TheVariants.{Closed};
 ghost use Rattle.table_record.specs.Limits.{Limits};
 ghost use Rattle.table_record.specs.Layout.{types_size};
-ghost use Rattle.derive_record.specs.Begins.{Begins, Opened, Stored, tabled};
+ghost use Rattle.derive_record.specs.Begins.{Begins, OpenedBy, Stored, tabled};
 
 use derive_slots::SLOT_BYTES;
 use derive_type::Work;
-use table_record::{Counts, Key, Kind, TYPE_BYTES};
+use table_record::{Counts, Key, Kind, KindCode, TYPE_BYTES};
 
 // What a derivation comes to: the type's number and how many types there are now; None where no number is free for it.
 pub type Derived = Option<(usize, usize)>;
@@ -72,12 +72,13 @@ pub fn begin(b: &[u8; TYPE_BYTES], c: Counts, n: usize, key: Key) -> Option<Deri
     search(b, c, n, key)
 }
 
-// Both sides are read. The new type has its number from here on (D16); until its signatures are there every method of it is denied.
+// Both sides are read. The new type has its number from here on (D16); until its signatures are there every method of it is denied. Any byte may be the kind
+// of its key (D11).
 // It stays a function by itself, so that its records are not on the stack of each derivation that others are nested in.
 #[inline(never)]
-pub fn start(b: &mut [u8; TYPE_BYTES], n: usize, key: Key) -> Work
+pub fn start<K: KindCode>(b: &mut [u8; TYPE_BYTES], n: usize, key: Key<K>) -> Work<K>
     requires { (n < max_types) × (key.left < max_types) × (key.right < max_types) × (length b.old ≡ types_size) }
-    ensures { Opened key n result b.old b.new }
+    ensures { OpenedBy K.code K.meaning key n result b.old b.new }
 {
     let w = Work {
         key,

@@ -15,8 +15,7 @@ use Rattle.spec_model.proofs.Tests.{so-ltb}
 use Rattle.table_record.specs.declared.Counts.{Counts}
 use Rattle.table_record.specs.Store.{raw_method, empty_method, raw_table, types_in, links_in, with_count}
 use Rattle.table_record.proofs.Lists.{same_or}
-use Rattle.derive_type.specs.declared.Work.{Work}
-use Rattle.derive_type.specs.NewType.{kind_in, new_record}
+use Rattle.derive_type.specs.NewType.{Work, kind_in, new_record}
 use Rattle.derive_type.proofs.Laws.{code-low}
 use Rattle.spec_model.specs.Records.{kind_code}
 use Rattle.derive_record.specs.Begins.{Derived}

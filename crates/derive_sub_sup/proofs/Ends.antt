@@ -21,6 +21,7 @@ use Rattle.spec_model.specs.Check.{RawMethod, RawType, no_raw_type, no_raw_metho
 use Rattle.spec_model.proofs.Rules.{never}
 use Rattle.table_record.specs.declared.Counts.{Counts}
 use Rattle.table_record.specs.declared.Key.{Key}
+use Rattle.table_record.specs.declared.Kind.{Kind as Kindᵃ}
 use Rattle.table_record.specs.declared.TypeRec.{TypeRec}
 use Rattle.table_record.specs.Store.{kind_is, raw_method, raw_of, types_in, types_to, table_in, ref_in, with_count, empty_method, Put}
 use Rattle.table_record.specs.Records.{bytes_of}
@@ -31,11 +32,10 @@ use Rattle.table_record.proofs.Lists.{lt-or-ge, same_or}
 use Rattle.table_record.proofs.Laws.{types-length, methods-length, method-in, put-length, put-types}
 use Rattle.table_record.proofs.Tables.{types-to-length, types-to-at, types-add, types-put, types_of, size_is, ref-below}
 use Rattle.table_record.specs.Layout.{type_size}
-use Rattle.derive_type.specs.declared.Work.{Work}
 use Rattle.derive_slots.specs.declared.Slot.{Slot}
 use Rattle.derive_slots.specs.declared.Slot.TheVariants.{Empty, Argument, Answer}
 use Rattle.derive_slots.specs.Slots.{Low, slot_at, method_at, slots_size}
-use Rattle.derive_type.specs.NewType.{shared, fill_at, method_in, kind_in, main_of, new_record, pending_record, Finished}
+use Rattle.derive_type.specs.NewType.{Work, shared, fill_at, method_in, kind_in, main_of, new_record, pending_record, Finished}
 use Rattle.derive_record.specs.Begins.{Derived, Begins, Opened, Stored, tabled}
 use Rattle.derive_sub_sup.specs.Link.{Ready, Writes, record_at, Kept, ExactAt, Exact, ExactTo, Sized, Leaves, Coded, Derives, Gives, derived_in, derivation_in}
 use Rattle.derive_type.proofs.Laws.{code-back}
@@ -372,7 +372,7 @@ pub record Loop (d : Kind) (c : Counts) (n t s : ℕ) (w : Work) (b b₁ ns : Li
   pub started : Started d c n t s w b b₀
   pub run : Run d c n w b₀ b₁ ns m k
 
-pub loop-starts : {d : Kind} {key : Key} {c : Counts} {n : ℕ} {w : Work} {b b₀ : List ℕ} {g : Option Derived} → Ready c n key.left key.right b → kind_is key.kind ≡ d → g ≡ None
+pub loop-starts : {d : Kind} {key : Key Kindᵃ} {c : Counts} {n : ℕ} {w : Work} {b b₀ : List ℕ} {g : Option Derived} → Ready c n key.left key.right b → kind_is key.kind ≡ d → g ≡ None
     → Begins (Without d c n key.left key.right b) n key.left key.right b g → Opened key n w b b₀ → Loop d c n key.left key.right w b b₀ zeros (n + 1) 0
 loop-starts {d} {key} {c} {n} {w} {b} {b₀} asked kinds told begun o = record { b₀ = b₀; started = st; run = start_run st }
   where
@@ -380,9 +380,9 @@ loop-starts {d} {key} {c} {n} {w} {b} {b₀} asked kinds told begun o = record {
     st = let h = new-begins d asked told begun in record {
       asked = asked;
       room = h.1;
-      kinds = ap (λ (k : Key). kind_is k.kind) o.key_is ∙ kinds;
-      key_left = ap (λ (k : Key). k.left) o.key_is;
-      key_right = ap (λ (k : Key). k.right) o.key_is;
+      kinds = ap (λ (k : Key Kindᵃ). kind_is k.kind) o.key_is ∙ kinds;
+      key_left = ap (λ (k : Key Kindᵃ). k.left) o.key_is;
+      key_right = ap (λ (k : Key Kindᵃ). k.right) o.key_is;
       new = h.0;
       left = h.2;
       right = h.3;

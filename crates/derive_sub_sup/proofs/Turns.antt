@@ -14,11 +14,10 @@ use Rattle.spec_model.specs.Restriction.{arg_kind, answer_kind, Derivation, deri
 use Rattle.table_record.specs.declared.Counts.{Counts}
 use Rattle.table_record.specs.Store.{with_count}
 use Rattle.table_record.specs.Limits.{Limits}
-use Rattle.derive_type.specs.declared.Work.{Work}
 use Rattle.derive_slots.specs.declared.Slot.{Slot}
 use Rattle.derive_slots.specs.declared.Slot.TheVariants.{Empty, Argument, Answer}
 use Rattle.derive_slots.specs.Slots.{slot_at, Low, method_slots, slots_size}
-use Rattle.derive_type.specs.NewType.{method_in, kind_in}
+use Rattle.derive_type.specs.NewType.{Work, method_in, kind_in}
 use Rattle.derive_record.specs.Begins.{Derived, tabled}
 use Rattle.derive_sub_sup.specs.Link.{Kept, Sized, Exact, ExactTo, Coded, CodedTo, Gives, derived_in}
 use Rattle.derive_sub_sup.proofs.Bytes.{exact_same}

@@ -24,9 +24,8 @@ use Rattle.table_record.proofs.Laws.{absent, four}
 use Rattle.law_table.proofs.Exact.{unsigned-exact, signed-exact, derived-key, ref-exact}
 use Rattle.derive_slots.specs.Slots.{method_slots}
 use Rattle.derive_slots.proofs.Laws.{stays, left-on, right-on}
-use Rattle.derive_type.specs.declared.Work.{Work}
 use Rattle.derive_type.specs.NewType.{shared, fill, fill_at, method_in, raw_in, MethodCoded, bare_method, slot_byte, signed_method}
-use Rattle.derive_type.specs.NewType.{kind_in, new_record, Finished}
+use Rattle.derive_type.specs.NewType.{Work, kind_in, new_record, Finished}
 
 -- how many arguments are shared
 take-shared : (c e : ℕ) (ps qs ns : List ℕ) → length ns ≤ length ps → length ns ≤ length qs → take (min c e) ns ≡ take (shared (take c ps) (take e qs)) ns

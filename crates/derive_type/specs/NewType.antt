@@ -5,11 +5,12 @@ use Rattle.std.proofs.Math.Option.{none}
 use Rattle.spec_model.specs.Table.{Kind, sub, sup, closed, Method, permit}
 use Rattle.spec_model.specs.Restriction.{restricted}
 use Rattle.spec_model.specs.Check.{RawMethod, RawType, no_raw_method, answer_of, method_of, raw_method_fits}
-use Rattle.spec_model.specs.Records.{argument_slots, kind_code}
+use Rattle.spec_model.specs.Records.{argument_slots}
+use Rattle.table_record.specs.declared.Kind.{Kind as Kindᵃ}
 use Rattle.table_record.specs.declared.TypeRec.{TypeRec}
-use Rattle.table_record.specs.Store.{kind_is, raw_method, raw_of, empty_type, TypeExact}
+use Rattle.table_record.specs.Store.{kind_is, kind_byte, raw_method, raw_of, empty_type, TypeExact}
 use Rattle.derive_slots.specs.Slots.{method_slots}
-use Rattle.derive_type.specs.declared.Work.{Work}
+use Rattle.derive_type.specs.declared.Work.{Work as WorkOf}
 
 -- how many arguments both signatures have
 abbrev pub shared : List ℕ → List ℕ → ℕ
@@ -52,7 +53,11 @@ abbrev pub signed_method : ℕ → ℕ → List ℕ → ℕ → RawMethod
 signed_method state count args answer =
     record { state = state; count = count; args = slot_byte count args 0 ∷ slot_byte count args 1 ∷ slot_byte count args 2 ∷ slot_byte count args 3 ∷ []; answer = answer }
 
--- The kind of the type at work, and the category of the side that it keeps.
+-- A type at work whose key has a kind.
+abbrev pub Work : Type 0
+Work = WorkOf Kindᵃ
+
+-- The kind of the type at work, and the category of the side that it keeps. Those named `_by` are for any kind that has a code and a meaning (`KindCode`).
 abbrev pub kind_in : Work → Kind
 kind_in w = kind_is w.key.kind
 
@@ -61,15 +66,24 @@ main_of sub x y = x
 main_of sup x y = y
 main_of closed x y = x
 
+abbrev pub cat_by : {K : Type 0} → (K → Kind) → WorkOf K → ℕ
+cat_by meaning w = (main_of (meaning w.key.kind) w.left w.right).head.cat
+
 abbrev pub cat_in : Work → ℕ
-cat_in w = (main_of (kind_in w) w.left w.right).head.cat
+cat_in = cat_by kind_is
 
 -- A derived type as it is stored, and one at work, with every method denied.
+abbrev pub record_by : {K : Type 0} → (K → ℕ) → (K → Kind) → WorkOf K → List RawMethod → RawType
+record_by code meaning w ms = record { rep = 0; cat = cat_by meaning w; own = 0; kind = code w.key.kind; left = w.key.left; right = w.key.right; methods = ms }
+
+abbrev pub pending_by : {K : Type 0} → (K → ℕ) → (K → Kind) → WorkOf K → RawType
+pending_by code meaning w = record_by code meaning w (map raw_method empty_type.methods)
+
 abbrev pub new_record : Work → List RawMethod → RawType
-new_record w ms = record { rep = 0; cat = cat_in w; own = 0; kind = kind_code (kind_in w); left = w.key.left; right = w.key.right; methods = ms }
+new_record = record_by kind_byte kind_is
 
 abbrev pub pending_record : Work → RawType
-pending_record w = new_record w (map raw_method empty_type.methods)
+pending_record = pending_by kind_byte kind_is
 
 -- The finished type, from the bytes of its slots: it is stored exactly.
 pub record Finished (w : Work) (ms : ℕ) (ns : List ℕ) (z : TypeRec) : Type 0 where

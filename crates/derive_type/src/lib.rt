@@ -7,10 +7,10 @@ ghost use Rattle.spec_model.specs.Check.{method_of};
 ghost use Rattle.spec_model.specs.Table.{max_methods};
 ghost use Rattle.spec_model.specs.Records.{argument_slots};
 ghost use Rattle.table_record.specs.Store.{kind_is, raw_method, raw_of, MethodExact};
-ghost use Rattle.derive_type.specs.NewType.{fill, MethodCoded, bare_method, signed_method, cat_in, new_record, pending_record, Finished};
+ghost use Rattle.derive_type.specs.NewType.{fill, MethodCoded, bare_method, signed_method, main_of, record_by, pending_by, Finished};
 
 use derive_slots::{METHOD_SLOTS, SLOT_BYTES, state_of};
-use table_record::{Counts, Head, Key, Kind, Method, TypeRec, permits};
+use table_record::{Counts, Head, Key, Kind, KindCode, Method, TypeRec, permits};
 
 // How many arguments both signatures have (D20), at most the four that a record has room for.
 fn shared_count(x: u8, y: u8) -> usize
@@ -69,35 +69,35 @@ fn filled(kind: Kind, p: Method, q: Method, args: [u8; Method::SLOTS], answer: u
     }
 }
 
-// A new type at work: its key, and both sides as they were read.
+// The category of the side that a derived type keeps: the right one for Sup (D1, D3, D7).
+fn category(kind: Kind, left: &TypeRec, right: &TypeRec) -> u8
+    ensures { result ≡ (main_of (kind_is kind) left.now right.now).head.cat }
+{
+    match kind {
+        Kind::Sup => right.head.cat,
+        Kind::Sub | Kind::Closed => left.head.cat,
+    }
+}
+
+// A new type at work: its key, and both sides as they were read. As it stands until its signatures are derived, its key may have any byte for its kind.
 #[derive(Clone, Copy)]
-pub struct Work {
-    pub key: Key,
+pub struct Work<K = Kind> {
+    pub key: Key<K>,
     pub left: TypeRec,
     pub right: TypeRec,
 }
 
-impl Work {
-    // The category of the side that the derived type keeps: the right one for Sup (D1, D3, D7).
-    fn category(&self) -> u8
-        ensures { result ≡ cat_in self.now }
-    {
-        match self.key.kind {
-            Kind::Sup => self.right.head.cat,
-            Kind::Sub | Kind::Closed => self.left.head.cat,
-        }
-    }
-
+impl<K: KindCode> Work<K> {
     // A derived type is a reference type with own=no, known by its key (D11).
     fn new_type(&self, methods: [Method; Counts::METHODS]) -> TypeRec
         requires { (self.now.key.left < 256) × (self.now.key.right < 256) }
-        ensures { (raw_of result ≡ new_record self.now (raw_of result).methods) × (result.methods ≡ methods) }
+        ensures { (raw_of result ≡ record_by K.code K.meaning self.now (raw_of result).methods) × (result.methods ≡ methods) }
     {
         let head = Head {
             rep: Head::REF,
-            cat: self.category(),
+            cat: category(self.key.kind.meant(), &self.left, &self.right),
             own: 0,
-            kind: self.key.kind.code(),
+            kind: self.key.kind.stored(),
             left: self.key.left as u8,
             right: self.key.right as u8,
         };
@@ -107,11 +107,13 @@ impl Work {
     // The type as it stands until its signatures are derived: every method is denied (D16).
     pub fn pending(&self) -> TypeRec
         requires { (self.now.key.left < 256) × (self.now.key.right < 256) }
-        ensures { raw_of result ≡ pending_record self.now }
+        ensures { raw_of result ≡ pending_by K.code K.meaning self.now }
     {
         self.new_type([Method::empty(); Counts::METHODS])
     }
+}
 
+impl Work {
     // The derived type, from the bytes of its slots.
     pub fn finished(&self, methods: usize, slots: &[u8; SLOT_BYTES]) -> TypeRec
         requires { (self.now.key.left < 256) × (self.now.key.right < 256) × (methods ≤ max_methods) }

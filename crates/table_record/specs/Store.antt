@@ -13,7 +13,7 @@ use Rattle.table_record.specs.declared.Kind.TheVariants.{Sub, Sup, Closed}
 use Rattle.table_record.specs.declared.Method.{Method}
 use Rattle.table_record.specs.declared.TypeRec.{TypeRec}
 use Rattle.table_record.specs.declared.Links.{Links}
-use Rattle.spec_model.specs.Records.{method_record, type_record, argument_slots}
+use Rattle.spec_model.specs.Records.{method_record, type_record, argument_slots, kind_code}
 pub use Rattle.table_record.specs.Layout.{raw_method_at, raw_type_at, raw_links_at, head_of, raw_table, with_count, method_bytes, head_bytes, spare_bytes, methods_bytes, links_bytes, empty_counts}
 pub use Rattle.table_record.specs.Layout.{type_size, head_size, method_size, link_size, types_size, links_size}
 unfoldable pub use Rattle.table_record.specs.Layout.{raw_methods_at, types_in, links_in, table_in, record_bytes, empty_types, empty_links}
@@ -28,6 +28,10 @@ abbrev pub kind_is : Kind → Kindᵐ
 kind_is Sub = sub
 kind_is Sup = sup
 kind_is Closed = closed
+
+-- The byte that a kind is stored as.
+abbrev pub kind_byte : Kind → ℕ
+kind_byte k = kind_code (kind_is k)
 
 -- The code's records as the model's.
 abbrev pub raw_method : Method → RawMethod

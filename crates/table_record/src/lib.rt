@@ -3,12 +3,14 @@
 // (specs/Layout.antt).
 #![tactic(auto)]
 
-ghost use Rattle.std.specs.Prelude.{◌≡◌, suc, ◌+◌, ◌*◌, ◌≤◌, ◌<◌, length, get_or};
+ghost use Rattle.std.specs.Prelude.{◌≡◌, ℕ, suc, ◌+◌, ◌*◌, ◌≤◌, ◌<◌, length, get_or};
+ghost use Rattle.spec_model.specs.Table.{Kind as Kindᵐ};
 ghost use Rattle.spec_model.specs.Table.{permit, max_methods, max_categories, max_types};
 ghost use Rattle.spec_model.specs.Records.{argument_slots, kind_code};
 ghost use Rattle.spec_model.specs.Check.{no_raw_type, no_raw_links, state_of, kind_of};
 ghost use Rattle.table_record.specs.Store.{types_in, links_in, raw_method, raw_of, raw_in, head_of, raw_links, type_size, head_size, method_size};
-ghost use Rattle.table_record.specs.Store.{kind_is, ref_as, ref_in, may_stand_as, with_count, empty_counts, empty_method, empty_type, empty_types, empty_links};
+ghost use Rattle.table_record.specs.Store.{kind_is, kind_byte};
+ghost use Rattle.table_record.specs.Store.{ref_as, ref_in, may_stand_as, with_count, empty_counts, empty_method, empty_type, empty_types, empty_links};
 
 // The bytes of the types of a table, and of its broader links: those of category 0, which names none, are there too.
 pub const TYPE_BYTES: usize = Counts::TYPES * TypeRec::BYTES;
@@ -193,10 +195,52 @@ impl From<u8> for Kind {
     }
 }
 
+// What a key may have for its kind: a kind, or any byte. The byte that a type stores for it, and the kind that it means.
+pub trait KindCode: Copy {
+    ghost code: { Self → ℕ };
+
+    ghost meaning: { Self → Kindᵐ };
+
+    fn stored(self) -> u8
+        ensures { result ≡ code self };
+
+    fn meant(self) -> Kind
+        ensures { kind_is result ≡ meaning self };
+}
+
+impl KindCode for Kind {
+    ghost code = { kind_byte };
+
+    ghost meaning = { kind_is };
+
+    fn stored(self) -> u8 {
+        self.code()
+    }
+
+    fn meant(self) -> Kind {
+        self
+    }
+}
+
+// A byte is stored as it is, one past the last kind's too, and means what it is read as (B5).
+impl KindCode for u8 {
+    ghost code = { λ code. code };
+
+    ghost meaning = { kind_of };
+
+    fn stored(self) -> u8 {
+        self
+    }
+
+    fn meant(self) -> Kind {
+        Kind::from(self)
+    }
+}
+
 // By which a derived type is known: its kind and the numbers of the two types that it is derived from.
 #[derive(Clone, Copy)]
-pub struct Key {
-    pub kind: Kind,
+pub struct Key<K = Kind> {
+    pub kind: K,
     pub left: usize,
     pub right: usize,
 }
