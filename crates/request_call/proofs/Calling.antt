@@ -7,8 +7,8 @@ use mathlib.Core.Option.{none}
 use Prim.Native.Nat.{ℕ, ◌+◌, ◌≤◌, ◌<◌}
 use native.Mathlib.Omega.{arith}
 use lib.Dec.{ltb}
-use Rattle.std.specs.Prelude.{Some, None, Ok, Err}
-use Rattle.std.specs.Prelude.{Option as Maybe, Result as Either}
+use Rattle.std.specs.Prelude.{Ok, Err}
+use Rattle.std.specs.Prelude.{Result as Either}
 use lib.IntN.{ℤ}
 use lib.ListN.{length, get_or, get_or-append}
 use lib.Seq.{get_or_at}
@@ -129,19 +129,14 @@ module _ (s : State) (who k m p : ℕ) (here : p ≡ (cell_at (system_in s) k).p
 -- ---- What is planned.
 module _ (s : State) (vs : List ℤ) where
   pub planned-as : {m m' : Res (System × Result)} → m ≡ m' → (p : Either Plan Refusal) → Planned s vs m' p → Planned s vs m p
-  planned-as e (Ok p) h = record { fits = h.fits; goes = λ x z. e ∙ h.goes x z; adds = λ z. e ∙ h.adds z }
+  planned-as e (Ok p) h = record { fits = h.fits; goes = e ∙ h.goes; adds = λ z. e ∙ h.adds z }
   planned-as e (Err d) h = e ∙ h
 
-  pub planned-goes : (who k m adapters : ℕ) (x : Method) (sends : Maybe Method) → MayCall s who × (who < 256) × (k < s.cells.count) × (m < s.counts.methods) →
-      ((y : Method) → sends ≡ Some y → y ≡ x) →
-      (sends ≡ None → call_through (system_in s) who k m (arguments_of x) vs ≡ ok (with_call (system_in s) (new_call who k m), pair s.calls.count adapters)) →
+  pub planned-goes : (who k m adapters : ℕ) (x : Method) (met : Met) → MayCall s who × (who < 256) × (k < s.cells.count) × (m < s.counts.methods) →
+      (met ≡ Numbers → call_through (system_in s) who k m (arguments_of x) vs ≡ ok (with_call (system_in s) (new_call who k m), pair s.calls.count adapters)) →
       Planned s vs (call_through (system_in s) who k m (arguments_of x) vs)
-      (Ok (record { who = who; cell = k; method = m; adapters = adapters; sends = sends }))
-  planned-goes who k m adapters x sends low w e = record {
-    fits = low;
-    goes = λ y z. ap (λ (q : Method). call_through (system_in s) who k m (arguments_of q) vs) (sym (w y z));
-    adds = e;
-  }
+      (Ok (record { who = who; cell = k; method = m; adapters = adapters; signature = x; met = met }))
+  planned-goes who k m adapters x met low e = record { fits = low; goes = refl; adds = e }
 
 -- ---- Before the arguments: what their numbers come to.
 abbrev pub owner_at : State → ℕ → ℕ

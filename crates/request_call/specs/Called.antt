@@ -1,5 +1,5 @@
 -- The request call in the parts that the code has: the call once its operands are known, and what is left of it then.
-use Rattle.std.specs.Prelude.{◌≡◌, false, Some, None, Ok, Err, List, ℕ, ◌<◌, ltb, ℤ, length}
+use Rattle.std.specs.Prelude.{◌≡◌, false, Ok, Err, List, ℕ, ◌<◌, ltb, ℤ, length}
 use Rattle.std.specs.Prelude.{Result as Either}
 use Rattle.spec_model.specs.Basics.{Res, refuse, ok, try, need, named}
 use Rattle.spec_model.specs.Table.{method_at, is_avail}
@@ -8,10 +8,10 @@ use Rattle.spec_model.specs.Requests.{Call, System, Result, pair, cell_at, argum
 use Rattle.spec_model.specs.Refusals.{not_callable, wrong_values, calls_full}
 use Rattle.base_numbers.specs.declared.refusal.Refusal.{Refusal}
 use Rattle.base_numbers.specs.Refusal.{number_of}
-use Rattle.table_record.specs.declared.Method.{Method}
 use Rattle.state_record.specs.Whole.{Whole as State}
 use Rattle.state_record.specs.View.{system_in}
 use Rattle.state_record.specs.Sound.{MayCall}
+use Rattle.request_value.specs.declared.Met.TheVariants.{Numbers}
 use Rattle.request_value.specs.Sent.{arguments_of}
 use Rattle.request_call.specs.declared.Plan.{Plan}
 
@@ -38,12 +38,11 @@ abbrev pub Fits : State → Plan → Type 0
 Fits s p = MayCall s p.who × (p.who < 256) × (p.cell < s.cells.count) × (p.method < s.counts.methods)
 
 abbrev pub Adds : State → Res (System × Result) → Plan → Type 0
-Adds s m p = p.sends ≡ None → m ≡ ok (with_call (system_in s) (new_call p.who p.cell p.method), pair s.calls.count p.adapters)
+Adds s m p = p.met ≡ Numbers → m ≡ ok (with_call (system_in s) (new_call p.who p.cell p.method), pair s.calls.count p.adapters)
 
 pub record Goes (s : State) (vs : List ℤ) (m : Res (System × Result)) (p : Plan) : Type 0 where
   pub fits : Fits s p
-  -- with the signature by which its arguments are sent, where one of them is a reference
-  pub goes : (x : Method) → p.sends ≡ Some x → m ≡ call_through (system_in s) p.who p.cell p.method (arguments_of x) vs
+  pub goes : m ≡ call_through (system_in s) p.who p.cell p.method (arguments_of p.signature) vs
   pub adds : Adds s m p
 
 -- What is known of a call before anything is sent, m being what it comes to: the refusal, or the call that is left; and all of it where no argument is a reference.

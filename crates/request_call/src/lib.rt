@@ -125,15 +125,16 @@ fn call_through(
     Ok(answer)
 }
 
-// A call that has passed all tests of its operands, before anything is sent: the call that it is and its adapters; and its signature where a reference is among
-// the arguments. Where there is none all arguments have passed, and what is left is to add the call.
+// A call that has passed all tests of its operands, before anything is sent: the call that it is, its adapters and its signature; and what its arguments are met
+// as. Where all are numbers they have passed, and what is left is to add the call.
 #[derive(Clone, Copy)]
 pub struct Plan {
     pub who: usize,
     pub cell: usize,
     pub method: usize,
     pub adapters: usize,
-    pub sends: Option<Method>,
+    pub signature: Method,
+    pub met: Met,
 }
 
 // The numbers among the arguments of a call of method m, whose signature is x, through cell k, which is c (C9, C14).
@@ -154,20 +155,15 @@ fn plan_numbers(
 {
     let layers = state_places::layers_of(s.places, usize::from(c.place));
     let ls = crossing_targets::call_layers(c.ty, layers);
-    let numbers = Plan {
+    let met = request_value::pass_numbers(types, s.counts, ls, m, x, vs)?;
+    Ok(Plan {
         who,
         cell: k,
         method: m,
         adapters: layers.count - 1,
-        sends: None,
-    };
-    match request_value::pass_numbers(types, s.counts, ls, m, x, vs)? {
-        Met::Numbers => Ok(numbers),
-        Met::Reference => Ok(Plan {
-            sends: Some(x),
-            ..numbers
-        }),
-    }
+        signature: x,
+        met,
+    })
 }
 
 // The tests that are left once the subject, its cell and the method are known (C3, C4, C5, C7).
@@ -240,8 +236,8 @@ pub fn call_step(
         (call_request (system_in (whole types.old s.old)) subject cell method arguments.now) (done types.new s.new result) }
 {
     let p = plan_call(types, s, subject, cell, method, arguments)?;
-    match p.sends {
-        Some(x) => call_through(types, s, p.who, p.cell, p.method, x, arguments),
-        None => Ok(add_call(s, p.who, p.cell, p.method, p.adapters)),
+    match p.met {
+        Met::Reference => call_through(types, s, p.who, p.cell, p.method, p.signature, arguments),
+        Met::Numbers => Ok(add_call(s, p.who, p.cell, p.method, p.adapters)),
     }
 }

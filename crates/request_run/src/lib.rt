@@ -19,7 +19,7 @@ use base_numbers::refusal::Refusal;
 use request_by_code::serve_coded;
 use request_common::{Answer, copied};
 use request_operands::CODES;
-use request_words::{OUTCOME, next, operands, put_outcome};
+use request_words::{OUTCOME, next, operands_at, put_outcome};
 use state_record::State;
 use table_record::TYPE_BYTES;
 
@@ -48,7 +48,7 @@ fn serve_at(
     ensures { Step (whole types.old s.old) (serve_asked (system_in (whole types.old s.old)) (asked_at words.now at))
         (done types.new s.new result) }
 {
-    match operands(words, at) {
+    match operands_at(words, at) {
         Some(ops) => serve(types, s, words[at], ops),
         None => Err(Refusal::Form),
     }

@@ -17,6 +17,7 @@ ghost use Rattle.table_record.specs.Layout.{types_size};
 use base_numbers::refusal::Refusal;
 use request_call::Plan;
 use request_common::Answer;
+use request_value::Met;
 use state_record::State;
 use table_record::TYPE_BYTES;
 
@@ -39,9 +40,9 @@ fn planned(
         return Ok(None);
     }
     let p = request_call::plan_call(types, s, ops[0], ops[1], ops[2], &ops[3..])?;
-    match p.sends {
-        Some(_) => Ok(None),
-        None => Ok(Some(p)),
+    match p.met {
+        Met::Reference => Ok(None),
+        Met::Numbers => Ok(Some(p)),
     }
 }
 

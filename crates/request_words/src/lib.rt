@@ -37,18 +37,26 @@ pub fn put_outcome(out: &mut [i64], at: usize, outcome: Result<Answer, Refusal>)
     }
 }
 
+// How many operands the request at `at` has (U2); as many as there are words behind its code where that says it has more, or no word says it (U7).
+pub fn operands(words: &[i64], at: usize) -> usize
+    requires { at < length words.now }
+    ensures { result ≡ count_at words.now at }
+{
+    let left = words.len() - at - 1;
+    if left == 0 {
+        return 0;
+    }
+    index_of(words[at + 1], left)
+}
+
 // The operands of the request at `at` (U2); nothing where that says it has more than there are words behind its code, or no word says it (U7).
-pub fn operands(words: &[i64], at: usize) -> Option<&[i64]>
+pub fn operands_at(words: &[i64], at: usize) -> Option<&[i64]>
     requires { at < length words.now }
     ensures { MatchOption result (left_at words.now at ≤ count_at words.now at)
         (λ ops. (count_at words.now at < left_at words.now at) × (ops.now ≡ take (count_at words.now at) (drop (at + 2) words.now))) }
 {
-    let left = words.len() - at - 1;
-    if left == 0 {
-        return None;
-    }
-    let n = index_of(words[at + 1], left);
-    if left <= n {
+    let n = operands(words, at);
+    if words.len() - at - 1 <= n {
         return None;
     }
     let first = at + 2;
@@ -61,7 +69,7 @@ pub fn next(words: &[i64], at: usize) -> usize
     requires { at < length words.now }
     ensures { (result ≡ next_at words.now at) × (at < result) × (result ≤ length words.now) }
 {
-    match operands(words, at) {
+    match operands_at(words, at) {
         Some(ops) => at + 2 + ops.len(),
         None => words.len(),
     }

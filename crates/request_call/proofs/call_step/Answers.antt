@@ -18,16 +18,16 @@ returns-in_err-p c = let f = c.ranges in let p = err_from_is_err_and c.from_resi
 pub call_through-requires : goal.call_through-requires
 call_through-requires c = let low = c.in_ok-p.ensures.fits in (c.requires, low.0, low.1, low.2, low.3)
 
-pub returns-in-Some : goal.returns-in-Some
-returns-in-Some c = let f = c.ranges in let p = rw (to_z-of_z f.subject, to_z-of_z f.cell, to_z-of_z f.method) at c.in_ok-p.ensures in
-    step-as (p.goes c.in-Some.x c.in-Some.is) c.call_through.ensures
+pub returns-in-Reference : goal.returns-in-Reference
+returns-in-Reference c = let f = c.ranges in let p = rw (to_z-of_z f.subject, to_z-of_z f.cell, to_z-of_z f.method) at c.in_ok-p.ensures in
+    step-as p.goes c.call_through.ensures
 
 pub add_call-requires : goal.add_call-requires
 add_call-requires c = let a = c.args in let p = c.in_ok-p.p in let low = c.in_ok-p.ensures.fits in
     let b = call-byte (whole a.types.now a.s.now) c.requires p.who low.0 p.cell p.method 0 low.2 low.3 in
     (sound-room _ c.requires p.who low.0, low.1, b.0, b.1)
 
-pub returns-in-None : goal.returns-in-None
-returns-in-None c = let a = c.args in let f = c.ranges in let p = rw (to_z-of_z f.subject, to_z-of_z f.cell, to_z-of_z f.method) at c.in_ok-p.ensures in
+pub returns-in-Numbers : goal.returns-in-Numbers
+returns-in-Numbers c = let a = c.args in let f = c.ranges in let p = rw (to_z-of_z f.subject, to_z-of_z f.cell, to_z-of_z f.method) at c.in_ok-p.ensures in
     let low = p.fits in
-    step-as (p.adds c.in-None.is) (c.add_call.ensures a.types.now c.requires low.0 low.2 low.3)
+    step-as (p.adds c.in-Numbers.is) (c.add_call.ensures a.types.now c.requires low.0 low.2 low.3)
