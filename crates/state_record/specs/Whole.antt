@@ -1,4 +1,4 @@
--- A whole state: the bytes of its types, which are lent, and the rest, which goes by value. Contracts and laws speak of whole states.
+-- A whole state: the bytes of its types, and the rest, each lent by itself. Contracts and laws speak of whole states.
 use Rattle.std.specs.Prelude.{List, ℕ}
 use Rattle.table_record.specs.declared.Counts.{Counts}
 use Rattle.state_record.specs.Counted.{Cells}
