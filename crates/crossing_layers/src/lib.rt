@@ -23,7 +23,7 @@ fn carry_one(
     links: &[u8; LINK_BYTES],
     c: Counts,
     x: Crossed,
-    target: Option<u8>,
+    target: Option<usize>,
     r: usize,
     i: usize,
 ) -> Result<Crossed, Refusal>
@@ -38,7 +38,7 @@ fn carry_one(
     let next = Crossing {
         from: x.ty,
         place: x.place,
-        to: usize::from(to),
+        to,
         receiver: r,
     };
     let y = crossing_one::cross(types, links, c.with_types(x.types), x.places, next);

@@ -36,10 +36,10 @@ pub enum Slot {
     Answer,
 }
 
-// The type that each layer has for the value, where it has one.
+// The type that each layer has for the value, where it has one. Types are taken at their word (H14): a number here may be of any size, not of a byte alone.
 #[derive(Clone, Copy)]
 pub struct Targets {
-    pub list: [Option<u8>; CallLayers::MAX],
+    pub list: [Option<usize>; CallLayers::MAX],
     pub count: usize,
 }
 
@@ -89,6 +89,13 @@ pub fn target_at(types: &[u8; TYPE_BYTES], c: Counts, m: usize, s: Slot, t: usiz
     slot_in(table_record::get_method(types, t, m), s)
 }
 
+// A target as `Targets` has it.
+fn widened(target: Option<u8>) -> Option<usize>
+    ensures { result ≡ target }
+{
+    target.map(usize::from)
+}
+
 // The targets of a value over the layers of a call, by the types as they are before it starts.
 pub fn targets_of(types: &[u8; TYPE_BYTES], c: Counts, m: usize, s: Slot, w: CallLayers) -> Targets
     requires { Limits c × (w.count ≤ max_layers) }
@@ -96,7 +103,7 @@ pub fn targets_of(types: &[u8; TYPE_BYTES], c: Counts, m: usize, s: Slot, w: Cal
 {
     let mut list = [None; CallLayers::MAX];
     for i in 0..w.count {
-        list[i] = target_at(types, c, m, s, usize::from(w.list[i]));
+        list[i] = widened(target_at(types, c, m, s, usize::from(w.list[i])));
     }
     Targets {
         list,
@@ -154,7 +161,7 @@ fn pass_one(
     types: &[u8; TYPE_BYTES],
     c: Counts,
     v: i64,
-    target: Option<u8>,
+    target: Option<usize>,
     i: usize,
 ) -> Result<(), Refusal>
     requires { Limits c }
@@ -163,7 +170,6 @@ fn pass_one(
     let Some(t) = target else {
         return Err(at_layer(i, Refusal::Unrelated));
     };
-    let t = usize::from(t);
     if c.types <= t {
         return fits32(v);
     }

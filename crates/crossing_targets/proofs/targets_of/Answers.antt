@@ -3,7 +3,7 @@ use native.Mathlib.Omega.{arith}
 use borrow.Author.Rules.{rules}
 use lib.ListN.{length, length-set}
 use Rattle.table_record.specs.Store.{table_in}
-use Rattle.crossing_targets.specs.Targets.{slot_at, max_layers}
+use Rattle.crossing_targets.specs.Targets.{option_of, slot_at, max_layers}
 use Rattle.crossing_targets.proofs.Laws.{targets_next}
 use Rattle.crossing_targets.proofs.targets_of.Goals as goal
 
@@ -14,7 +14,7 @@ loop-i-preserved c =
     let long : length a.w.list ≡ max_layers = search rules in (
       length-set w.list w.i _ ∙ w.invariant.0,
       λ l. targets_next (slot_at (table_in a.types.now l a.c) a.m a.s) w.list a.w.list w.i _ w.invariant.0 long (omega (arith, c.loop-i-test.true, c.requires.1))
-          (c.target_at.ensures l ∙ ap (slot_at (table_in a.types.now l a.c) a.m a.s) c.from.ensures) (w.invariant.1 l),
+          (ap option_of c.widened.ensures ∙ c.target_at.ensures l ∙ ap (slot_at (table_in a.types.now l a.c) a.m a.s) c.from.ensures) (w.invariant.1 l),
     )
 
 pub returns : goal.returns
