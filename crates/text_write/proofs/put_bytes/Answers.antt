@@ -1,6 +1,5 @@
-use lib.ListN.{set, get_or, length}
-use mathlib.Core.Path.{◌≡◌, refl, ap, ◌∙◌}
-use native.Mathlib.Omega.{arith}
+use lib.ListN.{set, get_or}
+use mathlib.Core.Path.{refl, ap, ◌∙◌}
 use Rattle.text_write.proofs.Laws.{copy-next, copy-all}
 use Rattle.text_write.proofs.put_bytes.Goals as goal
 
