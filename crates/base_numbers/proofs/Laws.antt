@@ -1,4 +1,4 @@
--- Signed numbers as indices, and what a caller learns by comparing the index with n.
+-- Signed numbers as indices, and what a caller learns by comparing the index with n. And that the number of a refusal by name is small.
 use mathlib.Core.Path.{◌≡◌, refl, sym, ◌∙◌}
 use mathlib.Core.Bool.{Bool, true, false}
 use Prim.Native.Nat.{ℕ, ◌≤◌, ◌<◌}
@@ -9,6 +9,9 @@ use lib.Signed.{lt_z}
 use borrow.Author.Tests.{ltb-true, lt-ltb, le-ltb}
 use Rattle.spec_model.specs.Basics.{names, named}
 use Rattle.base_numbers.specs.Index.{index_of}
+use Rattle.base_numbers.specs.Refusal.{number_of}
+use Rattle.base_numbers.specs.declared.refusal.Refusal.{Refusal}
+use Rattle.base_numbers.specs.declared.refusal.Refusal.TheVariants.{Form}
 
 pub index-negative : (z : ℤ) (n : ℕ) → lt_z z (pos 0) ≡ true → n ≡ index_of z n
 index-negative (pos k) n h = let l : k < 0 = ltb-true k 0 h in absurd (omega arith)
@@ -45,3 +48,8 @@ module _ (z : ℤ) (n i : ℕ) (e : i ≡ index_of z n) where
           step true d = let q : i ≡ k = e ∙ rw d in (refl, sym q)
           step false d = let q : i ≡ n = e ∙ rw d in absurd (omega arith)
       go (negsuc k) e = let q : i ≡ n = e in absurd (omega arith)
+
+-- The number of a refusal by name is a word as it is (U8).
+pub number-small : (e : Refusal) → number_of e < 65536
+number-small Form = omega arith
+number-small e = omega arith

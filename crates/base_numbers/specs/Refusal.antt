@@ -29,7 +29,10 @@ number_of CallsFull = number.calls_full
 number_of LaterLayer = number.later_layer
 number_of UnfitTimes = number.unfit_times
 
--- the model's result; f says what a value means
+-- the model's result; `numbered` says the number of an error, f what a value means
+abbrev pub res_numbered : {E T A : Type 0} → (E → ℕ) → (T → A) → Result T E → Res A
+res_numbered numbered f (Ok x) = ok (f x)
+res_numbered numbered f (Err e) = refuse (numbered e)
+
 abbrev pub res_by : {T A : Type 0} → (T → A) → Result T Refusal → Res A
-res_by f (Ok x) = ok (f x)
-res_by f (Err e) = refuse (number_of e)
+res_by = res_numbered number_of

@@ -1,4 +1,4 @@
-ghost use Rattle.std.specs.Prelude.{◌≡◌};
+ghost use Rattle.std.specs.Prelude.{◌≡◌, ℕ};
 ghost use Rattle.base_numbers.specs.Refusal.{number_of};
 
 // The refusals by name: docs/refusals.txt, which says each in words. What can be refused answers a `Result` with one of these; its number is told at the
@@ -32,5 +32,40 @@ impl Refusal {
         ensures { result ≡ number_of self }
     {
         self as usize
+    }
+}
+
+// Why something is refused, where its number alone counts (E4): a refusal by name, or any number, as a caller may have one of his own.
+pub trait Numbered: Copy {
+    ghost numbered: { Self → ℕ };
+
+    fn to_number(self) -> usize
+        ensures { result ≡ numbered self };
+
+    fn from_refusal(refusal: Refusal) -> Self
+        ensures { numbered result ≡ number_of refusal };
+}
+
+impl Numbered for Refusal {
+    ghost numbered = { number_of };
+
+    fn to_number(self) -> usize {
+        self.number()
+    }
+
+    fn from_refusal(refusal: Self) -> Self {
+        refusal
+    }
+}
+
+impl Numbered for usize {
+    ghost numbered = { λ n. n };
+
+    fn to_number(self) -> Self {
+        self
+    }
+
+    fn from_refusal(refusal: Refusal) -> Self {
+        refusal.number()
     }
 }
