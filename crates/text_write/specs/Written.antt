@@ -2,15 +2,19 @@
 use Rattle.std.specs.Prelude.{ℕ, ◌≡◌, List, Result}
 use Rattle.spec_model.specs.Basics.{Res, refuse, ok}
 use Rattle.spec_sheet.specs.Text.{Written}
-use Rattle.base_numbers.specs.Refusal.{res_by}
+use Rattle.base_numbers.specs.Refusal.{number_of as number_by_name, res_numbered}
 use Rattle.base_numbers.specs.declared.refusal.Refusal.{Refusal}
 
 -- what comes of a text and a buffer: the text's length, or why it is refused
 abbrev pub Wrote : Type 0
 Wrote = Result ℕ Refusal
 
+-- where why it is refused has the number that `numbered` says
+abbrev pub wrote_numbered : {E : Type 0} → (E → ℕ) → Result ℕ E → Res ℕ
+wrote_numbered numbered = res_numbered numbered λ n. n
+
 abbrev pub wrote_result : Wrote → Res ℕ
-wrote_result = res_by λ n. n
+wrote_result = wrote_numbered number_by_name
 
 -- the number of a refusal, or 0; and what is handed out beside it, which stays `old` where it is refused
 abbrev pub number_of : {A : Type 0} → Res A → ℕ

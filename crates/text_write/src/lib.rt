@@ -7,9 +7,9 @@ ghost use Rattle.std.specs.Prelude.{◌≡◌, [], ◌∷◌, ◌+◌, ◌≤◌
 ghost use Rattle.spec_sheet.specs.Numbers.{decimal};
 ghost use Rattle.spec_sheet.specs.Text.{number_text};
 ghost use Rattle.text_write.specs.Fill.{Filled, Lined};
-ghost use Rattle.text_write.specs.Written.{wrote_result, number_of, value_of};
+ghost use Rattle.text_write.specs.Written.{wrote_numbered, number_of, value_of};
 
-use base_numbers::refusal::Refusal;
+use base_numbers::refusal::Numbered;
 
 // What a program prints: the first `length` bytes of `text`. Kept: a buffer with its length, since memory is fixed (no heap).
 #[derive(Clone, Copy)]
@@ -28,15 +28,15 @@ impl<const N: usize> Printed<N> {
 }
 
 // What a C function returns for a text's length or its refusal: the refusal's number, or 0 with the length handed out (E12).
-pub fn wrote_code(w: Result<usize, Refusal>, length: &mut usize) -> usize
-    ensures { (result ≡ number_of (wrote_result w)) × (length.new ≡ value_of length.old (wrote_result w)) }
+pub fn wrote_code<E: Numbered>(w: Result<usize, E>, length: &mut usize) -> usize
+    ensures { (result ≡ number_of (wrote_numbered E.numbered w)) × (length.new ≡ value_of length.old (wrote_numbered E.numbered w)) }
 {
     match w {
         Ok(n) => {
             *length = n;
             0
         }
-        Err(refusal) => refusal.number(),
+        Err(refusal) => refusal.to_number(),
     }
 }
 
