@@ -19,10 +19,13 @@ result_of Nothing = nothing
 abbrev pub Outcome : Type 0
 Outcome = Result Answer Refusal
 
--- the values, or the number of the refusal
+-- the values, or the number of the refusal, which `numbered` says
+abbrev pub outcome_numbered : {E : Type 0} → (E → ℕ) → Result Answer E → Outcomeᵐ
+outcome_numbered numbered (Ok a) = got (result_of a)
+outcome_numbered numbered (Err e) = refused (numbered e)
+
 abbrev pub outcome_of : Outcome → Outcomeᵐ
-outcome_of (Ok a) = got (result_of a)
-outcome_of (Err e) = refused (number_of e)
+outcome_of = outcome_numbered number_of
 
 -- an outcome with the whole state that is left: the types as they are now, and the rest that was lent
 pub record Done : Type 0 where

@@ -13,7 +13,7 @@ ghost use Rattle.request_common.specs.Back.{given_back};
 ghost use Rattle.request_common.specs.Served.{Step, done, Arrives, arrived, is_sheet_class};
 
 use base_numbers::index_of;
-use base_numbers::refusal::Refusal;
+use base_numbers::refusal::{Numbered, Refusal};
 use state_record::{Cell, Cells, Places, State};
 use table_record::{Counts, TYPE_BYTES};
 
@@ -33,7 +33,11 @@ pub fn copied(b: [u8; TYPE_BYTES]) -> [u8; TYPE_BYTES]
 }
 
 // Where a request was refused, the types are given back, every byte (Q14).
-pub fn give_back(types: &mut [u8; TYPE_BYTES], old: &[u8; TYPE_BYTES], r: Result<Answer, Refusal>)
+pub fn give_back<E: Numbered>(
+    types: &mut [u8; TYPE_BYTES],
+    old: &[u8; TYPE_BYTES],
+    r: Result<Answer, E>,
+)
     ensures { types.new ≡ given_back old.now types.old r }
 {
     if r.is_err() {
