@@ -3,11 +3,11 @@
 
 ghost use Rattle.std.specs.Prelude.{[], ◌∷◌, ◌≤◌};
 ghost use Rattle.spec_model.specs.Requests.{pair, number, got};
-ghost use Rattle.request_common.specs.Served.{outcome_of};
+ghost use Rattle.request_common.specs.Outcome.{outcome_numbered};
 ghost use Rattle.text_write.specs.Fill.{Filled, Lined};
 ghost use Rattle.script_write_outcome.specs.Outcomes.{integer_text, outcome_text};
 
-use base_numbers::refusal::Refusal;
+use base_numbers::refusal::Numbered;
 use request_common::Answer;
 use text_write::{put_byte, put_bytes, put_decimal, put_number, write_number, write_word};
 
@@ -48,14 +48,14 @@ fn write_integer(buf: &mut [u8], v: i64) -> usize
 }
 
 // The line of an outcome.
-pub fn write_outcome(buf: &mut [u8], a: Result<Answer, Refusal>) -> usize
-    ensures is { Lined buf.old buf.new (outcome_text (outcome_of a) ∷ []) result }
+pub fn write_outcome<E: Numbered>(buf: &mut [u8], a: Result<Answer, E>) -> usize
+    ensures is { Lined buf.old buf.new (outcome_text (outcome_numbered E.numbered a) ∷ []) result }
     ensures few { result ≤ 73 }
 {
     match a {
         Ok(Answer::Pair { first, second }) => write_pair(buf, first, second),
         Ok(Answer::Number(v)) => write_integer(buf, v),
         Ok(Answer::Nothing) => write_word(buf, b"got=-"),
-        Err(e) => write_number(buf, b"no=", e.number()),
+        Err(e) => write_number(buf, b"no=", e.to_number()),
     }
 }
