@@ -16,6 +16,7 @@ use Rattle.state_record.proofs.Kept.{sound-few}
 use Rattle.std.specs.Prelude.{Ok, Err}
 use Rattle.std.specs.Prelude.{Result as Either}
 use Rattle.base_numbers.specs.declared.refusal.Refusal.{Refusal}
+use Rattle.base_numbers.proofs.Laws.{number-small}
 use Rattle.request_common.specs.declared.Answer.{Answer}
 use Rattle.request_common.specs.declared.Answer.TheVariants.{Pair, Number, Nothing}
 use Rattle.request_common.specs.Served.{Done as Served}
@@ -33,7 +34,7 @@ pub step_small : (s : State) (q : Option Request) (r : Served) → Sound s → S
 step_small s q r h w = go r.outcome (subst (Small (λ (x : System × Result). Named (system_in s) x.0 x.1)) (sym w.is) (small-asked (system_in s) q))
   where
     go : (a : Either Answer Refusal) → Small {A = System × Result} (λ x. Named (system_in s) x.0 x.1) (served_with (system_in r.state) (outcome_of a)) → SmallOutcome a
-    go (Err e) k = tt
+    go (Err e) k = number-small e
     go (Ok (Pair a b)) (inl k) =
         let t : State = r.state in
         let n : length (system_in t).cells ≡ t.cells.count = (means-counted t).cells in

@@ -4,16 +4,21 @@ use Rattle.std.proofs.Math.Option.{Option, none}
 use Rattle.spec_model.specs.Requests.{Request}
 use Rattle.base_numbers.specs.Index.{index_of}
 use Rattle.base_numbers.specs.declared.refusal.Refusal.{Refusal}
+use Rattle.base_numbers.specs.Refusal.{number_of}
 use Rattle.request_common.specs.declared.Answer.{Answer}
 use Rattle.request_common.specs.declared.Answer.TheVariants.{Pair, Number, Nothing}
 use Rattle.request_words.specs.Words.{request}
 
--- The numbers of an outcome, small enough to be words as they are; those of a sound state are (crates/request_run/proofs/Small.antt), and a refusal's is.
+-- The numbers of an outcome, small enough to be words as they are, that of a refusal as `numbered` says it.
+abbrev pub SmallNumbered : {E : Type 0} → (E → ℕ) → Result Answer E → Type 0
+SmallNumbered numbered (Err e) = numbered e < 65536
+SmallNumbered numbered (Ok (Pair a b)) = (a < 65536) × (b < 65536)
+SmallNumbered numbered (Ok (Number v)) = Unit
+SmallNumbered numbered (Ok Nothing) = Unit
+
+-- those of a sound state are (crates/request_run/proofs/Small.antt)
 abbrev pub SmallOutcome : Result Answer Refusal → Type 0
-SmallOutcome (Err e) = Unit
-SmallOutcome (Ok (Pair a b)) = (a < 65536) × (b < 65536)
-SmallOutcome (Ok (Number v)) = Unit
-SmallOutcome (Ok Nothing) = Unit
+SmallOutcome = SmallNumbered number_of
 
 -- The request that begins at a word, as the functions find it.
 -- the words behind the code

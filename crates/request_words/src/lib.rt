@@ -3,12 +3,12 @@
 
 ghost use Rattle.std.specs.Prelude.{◌≡◌, [], ◌∷◌, ◌+◌, ◌≤◌, ◌<◌, pos, length, take, drop, MatchOption};
 ghost use Rattle.std.proofs.lemmas.List.Edits.{sets};
-ghost use Rattle.request_common.specs.Outcome.{outcome_of};
+ghost use Rattle.request_common.specs.Outcome.{outcome_numbered};
 ghost use Rattle.request_words.specs.Words.{outcome_size, words_of};
-ghost use Rattle.request_words.specs.Found.{SmallOutcome, left_at, count_at, next_at};
+ghost use Rattle.request_words.specs.Found.{SmallNumbered, left_at, count_at, next_at};
 
 use base_numbers::index_of;
-use base_numbers::refusal::Refusal;
+use base_numbers::refusal::Numbered;
 use request_common::Answer;
 
 // The words of an outcome (U8).
@@ -25,12 +25,12 @@ fn put_words(out: &mut [i64], at: usize, first: i64, second: i64, third: i64, fo
 }
 
 // An outcome as four words (U8).
-pub fn put_outcome(out: &mut [i64], at: usize, outcome: Result<Answer, Refusal>)
-    requires { (at + outcome_size ≤ length out.old) × SmallOutcome outcome }
-    ensures { out.new ≡ sets out.old at (words_of (outcome_of outcome)) }
+pub fn put_outcome<E: Numbered>(out: &mut [i64], at: usize, outcome: Result<Answer, E>)
+    requires { (at + outcome_size ≤ length out.old) × SmallNumbered E.numbered outcome }
+    ensures { out.new ≡ sets out.old at (words_of (outcome_numbered E.numbered outcome)) }
 {
     match outcome {
-        Err(e) => put_words(out, at, e.number() as i64, 0, 0, 0),
+        Err(e) => put_words(out, at, e.to_number() as i64, 0, 0, 0),
         Ok(Answer::Pair { first, second }) => put_words(out, at, 0, 2, first as i64, second as i64),
         Ok(Answer::Number(v)) => put_words(out, at, 0, 1, v, 0),
         Ok(Answer::Nothing) => put_words(out, at, 0, 0, 0, 0),
