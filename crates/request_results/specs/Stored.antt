@@ -3,20 +3,23 @@ use Rattle.std.specs.Prelude.{◌≡◌, Result, Ok, Err, true, false, ℕ, ◌<
 use Rattle.state_record.specs.Whole.{Whole as State}
 use Rattle.state_bytes.specs.Flat.{Flat, counts_in, cell_count, place_count, call_count}
 use Rattle.state_bytes.specs.Records.{CellsTo, PlacesTo, CallsTo}
-use Rattle.base_numbers.specs.declared.refusal.Refusal.{Refusal}
+use Rattle.base_numbers.specs.Refusal.{number_of}
 use Rattle.request_common.specs.declared.Answer.{Answer}
 use Rattle.request_common.specs.declared.Answer.TheVariants.{Pair, Number, Nothing}
 use Rattle.request_common.specs.Served.{Done as Served}
-use Rattle.request_common.specs.Served.{outcome_of}
+use Rattle.request_common.specs.Outcome.{outcome_numbered}
 use Rattle.request_common.specs.Back.{is_accepted}
 use Rattle.request_results.specs.States.{LentState, outcome_number, outcome_values}
 
 -- two numbers that are small enough to be signed
-abbrev pub Small : Result Answer Refusal → Type 0
+abbrev pub SmallAnswer : Answer → Type 0
+SmallAnswer (Pair a b) = (a < 65536) × (b < 65536)
+SmallAnswer (Number v) = Unit
+SmallAnswer Nothing = Unit
+
+abbrev pub Small : {E : Type 0} → Result Answer E → Type 0
 Small (Err e) = Unit
-Small (Ok (Pair a b)) = (a < 65536) × (b < 65536)
-Small (Ok (Number v)) = Unit
-Small (Ok Nothing) = Unit
+Small (Ok a) = SmallAnswer a
 
 -- the state is stored in the arrays: its counts and its counted records
 pub record Stored (s : State) (old new : Flat) : Type 0 where
@@ -29,9 +32,12 @@ pub record Stored (s : State) (old new : Flat) : Type 0 where
   pub places : PlacesTo s.places old.places new.places
   pub calls : CallsTo s.calls old.calls new.calls
 
--- what r leaves of what was lent
-pub record Back (r : Served) (n : ℕ) (old new : LentState) : Type 0 where
-  pub number : n ≡ outcome_number (outcome_of r.outcome)
-  pub values : new.values ≡ outcome_values old.values (outcome_of r.outcome)
-  pub refused : is_accepted r.outcome ≡ false → new.state ≡ old.state
-  pub accepted : is_accepted r.outcome ≡ true → Stored r.state old.state new.state
+-- what the outcome r, with s as it is then, leaves of what was lent; `numbered` says the number of a refusal
+pub record BackNumbered {E : Type 0} (numbered : E → ℕ) (r : Result Answer E) (s : State) (n : ℕ) (old new : LentState) : Type 0 where
+  pub number : n ≡ outcome_number (outcome_numbered numbered r)
+  pub values : new.values ≡ outcome_values old.values (outcome_numbered numbered r)
+  pub refused : is_accepted r ≡ false → new.state ≡ old.state
+  pub accepted : is_accepted r ≡ true → Stored s old.state new.state
+
+abbrev pub Back : Served → ℕ → LentState → LentState → Type 0
+Back r = BackNumbered number_of r.outcome r.state

@@ -5,18 +5,18 @@
 ghost use Rattle.std.specs.Prelude.{◌≡◌, List, ℕ};
 ghost use Rattle.state_record.specs.Whole.{whole};
 ghost use Rattle.state_bytes.specs.Flat.{flat};
-ghost use Rattle.request_common.specs.Served.{result_of, done};
+ghost use Rattle.request_common.specs.Served.{result_of};
 ghost use Rattle.request_results.specs.States.{result_values, lent_state};
-ghost use Rattle.request_results.specs.Stored.{Small, Stored, Back};
+ghost use Rattle.request_results.specs.Stored.{SmallAnswer, Small, Stored, BackNumbered};
 
-use base_numbers::refusal::Refusal;
+use base_numbers::refusal::Numbered;
 use request_common::Answer;
 use state_bytes::{CALL_BYTES, CELL_BYTES, PLACE_BYTES};
 use state_record::State;
 
 // How many values an answer has, and the values (E12).
 fn values_of(answer: Answer) -> [i64; 3]
-    requires { Small (Ok answer) }
+    requires { SmallAnswer answer }
     ensures { result ≡ result_values (result_of answer) }
 {
     match answer {
@@ -49,8 +49,8 @@ pub fn store(
 
 // What comes back of a request: its number, and, refused, nothing is stored (Q14).
 // Kept: the C interface (0 or the number of a refusal, the values in an array).
-pub fn hand_back(
-    r: Result<Answer, Refusal>,
+pub fn hand_back<E: Numbered>(
+    r: Result<Answer, E>,
     s: &State,
     cells: &mut [u8; CELL_BYTES],
     places: &mut [u8; PLACE_BYTES],
@@ -60,7 +60,7 @@ pub fn hand_back(
 ) -> usize
     requires { Small r }
     ensures { (t l : List ℕ)
-        → Back (done t s.now r) result
+        → BackNumbered E.numbered r (whole t s.now) result
         (lent_state (flat t l cells.old places.old calls.old counts.old) values.old)
         (lent_state (flat t l cells.new places.new calls.new counts.new) values.new) }
 {
@@ -70,6 +70,6 @@ pub fn hand_back(
             *values = values_of(answer);
             0
         }
-        Err(e) => e.number(),
+        Err(e) => e.to_number(),
     }
 }
