@@ -5,14 +5,13 @@
 ghost use Rattle.std.specs.Prelude.{◌≡◌, List, ◌∷◌, map, reverse, true, ℕ, suc, ◌≤◌, eqb, pos, negsuc};
 ghost use Rattle.spec_model.specs.Requests.{at_layer, within, pass_layers};
 ghost use Rattle.spec_model.specs.Check.{method_of};
-ghost use Rattle.base_numbers.specs.Refusal.{number_of};
 ghost use Rattle.spec_model.specs.Crossing.{max_places};
 ghost use Rattle.table_record.specs.Store.{raw_method, table_in};
 ghost use Rattle.table_record.specs.Limits.{Limits};
 ghost use Rattle.state_places.specs.Behind.{layers_in};
 ghost use Rattle.crossing_targets.specs.Targets.{call_layers_in, targets_in, option_of, argument_of, slot_in, slot_at, width_at, pass_to, passed_of, max_layers};
 
-use base_numbers::refusal::Refusal;
+use base_numbers::refusal::{Numbered, Refusal};
 use state_places::Layers;
 use state_record::State;
 use table_record::{Counts, Head, Method, TYPE_BYTES};
@@ -119,13 +118,17 @@ pub fn reversed(x: Targets) -> Targets
 }
 
 // A refusal at layer i: at a later one than the first, 8 and 10 are 19 (C13).
-pub fn at_layer(i: usize, e: Refusal) -> Refusal
-    ensures { number_of result ≡ at_layer (eqb i 0) (number_of e) }
+pub fn at_layer<E: Numbered>(i: usize, e: E) -> E
+    ensures { E.numbered result ≡ at_layer (eqb i 0) (E.numbered e) }
 {
-    match e {
-        Refusal::Unrelated | Refusal::NotStrict if i != 0 => Refusal::LaterLayer,
-        _ => e,
+    if i == 0 {
+        return e;
     }
+    let number = e.to_number();
+    if number == Refusal::Unrelated.number() || number == Refusal::NotStrict.number() {
+        return E::from_refusal(Refusal::LaterLayer);
+    }
+    e
 }
 
 // Whether a number is in a width: `low` is the least of it and `high` the greatest.
