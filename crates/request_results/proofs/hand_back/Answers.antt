@@ -1,11 +1,11 @@
 -- By whether it is a refusal.
-use mathlib.Core.Path.{refl, sym}
+use Rattle.std.proofs.Common.{refl, sym, rules}
 use Rattle.spec_model.proofs.Rules.{never}
 use Rattle.request_results.proofs.hand_back.Goals as goal
 
 pub returns-in-Err : goal.returns-in-Err
 returns-in-Err g c = λ t l. rw c.in-Err.is (record {
-  number = c.to_number.ensures;
+  number = search rules;
   values = refl;
   refused = λ _. refl;
   accepted = λ h. never h;
