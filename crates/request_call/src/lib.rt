@@ -125,8 +125,8 @@ fn call_through(
     Ok(answer)
 }
 
-// A call that has passed all tests of its operands, before anything is sent: the call that it is, its adapters and its signature; and what its arguments are met
-// as. Where all are numbers they have passed, and what is left is to add the call.
+// A call that has passed all tests of its operands, before anything is sent: the call that it is, its adapters and its signature; and what its arguments are
+// met as. Where all are numbers they have passed, and what is left is to add the call.
 #[derive(Clone, Copy)]
 pub struct Plan {
     pub who: usize,

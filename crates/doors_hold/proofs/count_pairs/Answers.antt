@@ -17,7 +17,7 @@ loop-i-preserved-then-m-within c =
 pub loop-i-preserved-then-a-within : goal.loop-i-preserved-then-a-within
 loop-i-preserved-then-a-within c =
     let l = c.loop-i in
-    record { few = omega arith; pairs = next-arrival _ _ _ l.i l.j l.n l.invariant.pairs c.loop-i-test.true c.if-j-arrivals.true c.if-m-within.false c.if-a-within.true }
+    record { few = omega arith; pairs = next-arrival _ _ _ l.i l.j l.n l.invariant.pairs c.loop-i-test.true c.if-j-arrivals.true (omega arith) c.if-a-within.true }
 
 pub loop-i-preserved : goal.loop-i-preserved
 loop-i-preserved c =

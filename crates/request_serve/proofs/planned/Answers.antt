@@ -32,5 +32,8 @@ returns-in_err-p c = let a = c.args in let w = a.ops.now in let m = system_in (w
 pub returns-in-Numbers : goal.returns-in-Numbers
 returns-in-Numbers c = let a = c.args in let w = a.ops.now in let m = system_in (whole a.types.now a.s.now) in
     let f₀ : SFits w64 (get_or w 0 (pos 0)) = search rules in let f₁ : SFits w64 (get_or w 1 (pos 0)) = search rules in let f₂ : SFits w64 (get_or w 2 (pos 0)) = search rules in
-    let h = rw (to_z-of_z f₀, to_z-of_z f₁, to_z-of_z f₂) at c.in_ok-p.ensures in
-    (h.fits, asked m a.code w c.if-code-ne-CALL.false c.if-ops-lt3.false ∙ ap (call_request m (get_or w 0 (pos 0)) (get_or w 1 (pos 0)) (get_or w 2 (pos 0))) (sym (all-behind w 3)) ∙ h.adds c.in-Numbers.is)
+    let h = rw (to_z-of_z f₀, to_z-of_z f₁, to_z-of_z f₂) at c.in_ok-p.ensures in (
+      h.fits,
+      asked m a.code w c.if-code-ne-CALL.false c.if-ops-lt3.false ∙ ap (call_request m (get_or w 0 (pos 0)) (get_or w 1 (pos 0)) (get_or w 2 (pos 0))) (sym (all-behind w 3))
+          ∙ h.adds c.in-Numbers.is,
+    )
