@@ -1,4 +1,4 @@
--- A reference over all layers: what the crossings leave is put together, and the rest of the way follows.
+-- A reference over all layers: what the crossings leave is put together, and the rest of the way follows. And that each layer is met by what a crossing asks (C11).
 use mathlib.Core.Path.{◌≡◌, refl, sym, ap, ◌∙◌, subst}
 use mathlib.Core.Bool.{Bool, true, false}
 use mathlib.Core.List.{List, [], ◌∷◌, map}
@@ -19,11 +19,15 @@ use Rattle.table_record.specs.Store.{table_in, with_count}
 use Rattle.state_record.specs.Counted.{Places}
 use Rattle.state_record.specs.View.{places_in}
 use Rattle.crossing_meet.specs.declared.Crossed.{Crossed}
-use Rattle.crossing_meet.specs.Crossed.{Ready, reference, reference_of, crossed_of, Leaves}
-use Rattle.crossing_meet.proofs.Laws.{leaves-on}
+use Rattle.crossing_meet.specs.Crossed.{Ready, PlaceKnown, reference, reference_of, crossed_of, Leaves}
+use Rattle.crossing_meet.proofs.Laws.{grown-checked, leaves-on}
 use Rattle.crossing_targets.specs.Targets.{option_of}
 use Rattle.crossing_targets.proofs.Laws.{rest-next, nothing_left}
 use Rattle.crossing_layers.specs.Carried.{cross_to}
+
+-- ---- One layer: ready by counts that are equal.
+pub one-ready : (b l : List ℕ) (c d : Counts) (n : ℕ) → d ≡ with_count c n → Ready l (with_count c n) b → Ready l d b
+one-ready b l c d n e h = subst (λ (k : Counts). Ready l k b) (sym e) h
 
 -- ---- All layers.
 cross-step : (first : Bool) (f : Reference) (r : ℕ) (o : Option ℕ) (os : List (Option ℕ)) → cross_layers first f r (o ∷ os) ≡ try (cross_to first f r o) (λ g. cross_layers false g r os)
@@ -44,7 +48,30 @@ module _ (b l : List ℕ) (c : Counts) (ps : Places) (s p r : ℕ) (list : List 
     pub carries : Leaves c ps s b b₁ (Ok x)
     pub rest : cross_layers (eqb i 0) (reference_of b₁ l c x) r (map option_of (drop i (take n list))) ≡ All
 
+  pub goes-starts : Ready l c b → PlaceKnown ps p → Goes b (record { ty = s; place = p; places = ps; types = c.types }) 0
+  goes-starts h k = record {
+    carries = record {
+      long = h.long;
+      kept = λ i q. refl;
+      came = record {
+        ty = λ k. k;
+        types = record { more = omega arith; room = h.checked.limits.types; exact = λ i u v. absurd (omega (arith, u, v)) };
+        descending = k.descending;
+        place = k.place;
+        typed = λ t. t;
+        before = record { more = omega arith; same = λ i q. refl };
+      };
+    };
+    rest = refl;
+  }
+
   module _ (h : Ready l c b) (b₁ : List ℕ) (x : Crossed) (i : ℕ) (w : Goes b₁ x i) where
+    -- the reference as it has become may cross again
+    pub goes-ready : Ready l (with_count c x.types) b₁ × PlaceKnown x.places x.place
+    goes-ready =
+        let k = w.carries.came in
+        (record { checked = grown-checked l c x.types h.checked k.types.more k.types.room; long = w.carries.long }, record { descending = k.descending; place = k.place })
+
     abbrev Done : List ℕ → Result Crossed Refusal → Type 0
     Done b₂ q = (crossed_of b₂ l c q ≡ All) × Leaves c ps s b b₂ q
 

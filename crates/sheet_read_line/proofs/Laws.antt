@@ -195,13 +195,13 @@ module _ (c k : ℕ) (l : List ℕ) where
           under-good d = ap (λ z. need z not_below λ _. ok xs) (sym d) ∙ known
 
 -- One or two numbers as links: they are what was read, and the record of what they say, in which a missing second one is 0.
-pub links-are : (t : Numbers) → 1 ≤ t.count → t.count ≤ 2 → RestEmpty t
-    → (links_of (record { count = t.count; first = t.first; second = t.second }) ≡ numbers_of t) × LinksExact (record { count = t.count; first = t.first; second = t.second })
-links-are t h k z = go t.count h k (z 1)
+pub links-are : (t : Numbers) (n a b : ℕ) → n ≡ t.count → a ≡ t.first → b ≡ t.second → 1 ≤ t.count → t.count ≤ 2 → RestEmpty t
+    → (links_of (record { count = n; first = a; second = b }) ≡ numbers_of t) × LinksExact (record { count = n; first = a; second = b })
+links-are t n a b e p q h k z = go t.count e h k (z 1)
   where
-    go : (c : ℕ) → 1 ≤ c → c ≤ 2 → (c ≤ 1 → t.second ≡ 0) → (links_of (record { count = c; first = t.first; second = t.second }) ≡ take c (items_of t))
-        × LinksExact (record { count = c; first = t.first; second = t.second })
-    go zero h k z = absurd (omega arith)
-    go (suc zero) h k z = (refl, rw (z (omega arith)))
-    go (suc (suc zero)) h k z = (refl, refl)
-    go (suc (suc (suc c))) h k z = absurd (omega arith)
+    go : (c : ℕ) → n ≡ c → 1 ≤ c → c ≤ 2 → (c ≤ 1 → t.second ≡ 0) → (links_of (record { count = n; first = a; second = b }) ≡ take c (items_of t))
+        × LinksExact (record { count = n; first = a; second = b })
+    go zero e h k z = absurd (omega arith)
+    go (suc zero) e h k z = let w = q ∙ z (omega arith) in (rw (e, p), rw (e, p, w))
+    go (suc (suc zero)) e h k z = (rw (e, p, q), rw (e, p, q))
+    go (suc (suc (suc c))) e h k z = absurd (omega arith)

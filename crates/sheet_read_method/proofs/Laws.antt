@@ -12,7 +12,7 @@ use lib.Dec.{eqb}
 use lib.ListN.{length, get_or, take, drop}
 use borrow.Author.Tests.{lt-ltb, le-ltb, eq-eqb, ne_eqb}
 use Rattle.spec_model.specs.Basics.{Res, refuse, ok, try, need, all, unless_missing}
-use Rattle.spec_model.specs.Table.{State, optional, avail, Method, max_arguments, permit}
+use Rattle.spec_model.specs.Table.{State, optional, avail, Method, bare, max_arguments, permit}
 use Rattle.spec_model.specs.Check.{state_of, answer_of, method_of}
 use Rattle.spec_model.proofs.Rules.{never}
 use Rattle.spec_model.specs.Refusals.{form, out_of_range}
@@ -169,6 +169,11 @@ signed-means s count answer a k args xs p e q f =
     ∙ ap (λ (z : ℕ). let m : Method = record { state = state_of s; args = take z args; answer = answer_of answer } in m) e
     ∙ ap (λ (z : List ℕ). let m : Method = record { state = state_of s; args = z; answer = answer_of answer } in m) q
     ∙ ap (λ (z : ℕ). let m : Method = record { state = state_of s; args = xs; answer = answer_of z } in m) f
+
+-- where a state permits nothing, the other bytes mean nothing (B16)
+pub unsigned-means : (s count answer : ℕ) (args : List ℕ) → permit (state_of s) ≡ false → method_of (record { state = s; count = count; args = args; answer = answer }) ≡ bare (state_of s)
+unfolding means
+unsigned-means s count answer args p = ap (λ z. means (state_of s) z count args answer) p
 
 -- a state that permits has a code
 pub permits-below : (s : ℕ) → permit (state_of s) ≡ true → s < 4

@@ -24,6 +24,7 @@ use Rattle.law_table.proofs.Whole.{flat-length, bytes-long}
 use Rattle.table_record.proofs.Lists.{is-from, same_or}
 use Rattle.table_record.proofs.Tables.{types-add}
 use Rattle.table_record.proofs.Laws.{absent}
+use Rattle.table_record.proofs.Codes.{number-rep}
 use Rattle.table_record.specs.Layout.{type_size, types_size}
 use Rattle.spec_sheet.specs.Sheet.{sheet_type}
 use Rattle.sheet_read_type.specs.View.{method_is, MethodsExact}
@@ -46,21 +47,29 @@ pub bit-small : (o : Bool) → bit o ≤ 1
 bit-small true = omega arith
 bit-small false = omega arith
 
-one-bit : (o : Bool) → eqb (bit o) 1 ≡ o
+pub one-bit : (o : Bool) → eqb (bit o) 1 ≡ o
 one-bit true = refl
 one-bit false = refl
 
 module _ (m n i : ℕ) (x : RawType) (h : i < n) where
-  pub ref-means : (c : ℕ) (o : Bool) (ms : List Methodᵐ) → x.rep ≡ 0 → x.cat ≡ c → x.own ≡ bit o → from m 0 (λ j. method_of (get_or x.methods j no_raw_method)) ≡ ms
-      → type_of m n i x ≡ sheet_type (rep_of 0) c o ms
+  pub ref-means : (c o : ℕ) (ms : List Methodᵐ) → x.rep ≡ 0 → x.cat ≡ c → x.own ≡ o → from m 0 (λ j. method_of (get_or x.methods j no_raw_method)) ≡ ms
+      → type_of m n i x ≡ sheet_type (rep_of 0) c (eqb o 1) ms
   unfolding meaning
   ref-means c o ms p q r f =
       ap (λ z. meaning (rep_of x.rep) (is_ref (rep_of x.rep)) x.cat x.own (from m 0 (λ j. method_of (get_or x.methods j no_raw_method))) z x) (lt-ltb i n h)
       ∙ ap (λ (z : ℕ). meaning (rep_of z) (is_ref (rep_of z)) x.cat x.own (from m 0 (λ j. method_of (get_or x.methods j no_raw_method))) true x) p
       ∙ ap (λ (z : ℕ). sheet_type (rep_of 0) z (eqb x.own 1) (from m 0 (λ j. method_of (get_or x.methods j no_raw_method)))) q
       ∙ ap (λ (z : ℕ). sheet_type (rep_of 0) c (eqb z 1) (from m 0 (λ j. method_of (get_or x.methods j no_raw_method)))) r
-      ∙ ap (λ z. sheet_type (rep_of 0) c z (from m 0 (λ j. method_of (get_or x.methods j no_raw_method)))) (one-bit o)
-      ∙ ap (sheet_type (rep_of 0) c o) f
+      ∙ ap (sheet_type (rep_of 0) c (eqb o 1)) f
+
+  -- whatever its bytes of own and methods are (B15)
+  pub number-means : (r c : ℕ) → 0 < r → x.rep ≡ r → x.cat ≡ c → type_of m n i x ≡ sheet_type (rep_of r) c false []
+  unfolding meaning
+  number-means r c k p q =
+      ap (λ z. meaning (rep_of x.rep) (is_ref (rep_of x.rep)) x.cat x.own (from m 0 (λ j. method_of (get_or x.methods j no_raw_method))) z x) (lt-ltb i n h)
+      ∙ ap (λ (z : ℕ). meaning (rep_of z) (is_ref (rep_of z)) x.cat x.own (from m 0 (λ j. method_of (get_or x.methods j no_raw_method))) true x) p
+      ∙ ap (λ z. meaning (rep_of r) z x.cat x.own (from m 0 (λ j. method_of (get_or x.methods j no_raw_method))) true x) (number-rep r (λ z. omega arith))
+      ∙ ap (λ (z : ℕ). sheet_type (rep_of r) z false []) q
 
 -- One type more.
 pub types-none : (m n : ℕ) (rs : List RawType) → types_to m n 0 rs ≡ []

@@ -71,9 +71,9 @@ module _ (l : List ℕ) (i n b : ℕ) (h : i < length l) (e : b ≡ get_or l i 0
       ap (λ z. digits z (drop (i + 1) l)) q
       ∙ sym (digits-here ∙ ap (λ z. cond z (digits (limit (n * 10 + (b - 48))) (drop (i + 1) l)) (took n (drop i l))) d)
 
-pub digits-end : (l : List ℕ) (i n : ℕ) → i ≡ length l → took n (drop (length l) l) ≡ digits n (drop i l)
+pub digits-end : (l : List ℕ) (i n : ℕ) → length l ≤ i → took n (drop i l) ≡ digits n (drop i l)
 unfolding digits
-digits-end l i n h = let e : drop (length l) l ≡ [] = at-end l (length l) (omega arith) in ap (took n) e ∙ ap (digits n) (sym e) ∙ ap (λ z. digits n (drop z l)) (sym h)
+digits-end l i n h = let e : drop i l ≡ [] = at-end l i h in ap (took n) e ∙ ap (digits n) (sym e)
 
 -- One number.
 pub number-none : (l : List ℕ) (at : ℕ) → at ≡ length l → fail ≡ number (drop at l)

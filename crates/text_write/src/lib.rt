@@ -51,6 +51,7 @@ pub fn put_byte(buf: &mut [u8], b: u8) -> usize
 }
 
 // The bytes of t.
+// Kept: a `for`; by `copy_from_slice` libexport_table.a needs memmove from outside (the C interface).
 pub fn put_bytes(buf: &mut [u8], t: &[u8]) -> usize
     ensures { Filled buf.old buf.new t.now result }
 {

@@ -1,6 +1,6 @@
 -- Key, numbers and nothing behind them (1), then the last category (2), then the category's own number (3): every return is the definition's next case.
 use mathlib.Core.Bool.{not}
-use mathlib.Core.Path.{◌≡◌, ap, sym, ◌∙◌}
+use mathlib.Core.Path.{◌≡◌, refl, ap, sym, ◌∙◌}
 use native.Mathlib.Omega.{arith}
 use Rattle.std.proofs.Common.{rules}
 use Rattle.std.specs.Prelude.{Err, Some}
@@ -71,7 +71,7 @@ returns-clause-is c =
     let x = c.in_ok-t.t in
     let e : t.result ≡ Some x = search rules in
     let w = numbers-within _ _ t.result x e t.ensures.within in
-    ap ok (links-are x w.1 w.2 w.3).0
+    ap ok (links-are x _ _ _ refl refl refl w.1 w.2 w.3).0
     ∙ under-good a.cats a.k a.l.now (sym c.begins.ensures ∙ c.if-not-begins.false) _ _ (numbers-right a.l.now t.result _ t.ensures.is _ e) c.if-t-l.false
     (sym c.all_below.ensures ∙ c.if-not-all_below.false) (sym c.all_below-2.ensures ∙ c.if-not-all_below-2.false)
 
@@ -80,4 +80,4 @@ returns-clause-exact c =
     let x = c.in_ok-t.t in
     let e : c.numbers_at.result ≡ Some x = search rules in
     let w = numbers-within _ _ c.numbers_at.result x e c.numbers_at.ensures.within in
-    (links-are x w.1 w.2 w.3).1
+    (links-are x _ _ _ refl refl refl w.1 w.2 w.3).1

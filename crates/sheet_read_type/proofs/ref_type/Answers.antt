@@ -7,14 +7,16 @@ use lib.ListN.{length, drop, take, length-map}
 use Rattle.std.proofs.Common.{rules}
 use Rattle.std.specs.Prelude.{Ok, Err}
 use Rattle.spec_model.specs.Table.{Ty, max_methods}
-use Rattle.spec_model.specs.Check.{type_of}
+use Rattle.spec_model.specs.Relations.{bit}
+use Rattle.spec_model.specs.Check.{rep_of, type_of}
 use Rattle.law_table.proofs.Exact.{sheet-key, ref-exact}
 use Rattle.table_record.specs.Store.{raw_of, raw_method}
 use Rattle.table_record.specs.declared.Head.{Head}
 use Rattle.spec_sheet.specs.Lines.{split, got}
+use Rattle.spec_sheet.specs.Sheet.{sheet_type}
 use Rattle.text_read.specs.View.{reading_by}
 use Rattle.sheet_read_type.proofs.Readings.{read_no, read_ok, ok_has, members-of, after_own, after_methods, step-no, step_ok}
-use Rattle.sheet_read_type.proofs.Stored.{methods-all, ref-means, bit-small}
+use Rattle.sheet_read_type.proofs.Stored.{methods-all, ref-means, one-bit, bit-small}
 use Rattle.sheet_read_type.specs.View.{method_is, MethodsExact}
 use Rattle.sheet_read_type.proofs.ref_type.Goals as goal
 
@@ -57,9 +59,10 @@ returns-clause-is c =
     let few : a.m ≤ length list = omega (arith, long, c.requires.1) in
     let head = c.sheet_head-head.ensures in
     let x = raw_of (record { head = c.sheet_head-head.result; methods = list }) in
+    let methods = map method_is (take a.m list) in
     λ i h. ap (λ (z : Ty). got z next.at (split (drop next.at s)))
-    (ref-means a.m a.n i x h a.cat own (map method_is (take a.m list)) (ap (λ (z : Head). z.rep) head) (ap (λ (z : Head). z.cat) head) (ap (λ (z : Head). z.own) head)
-    (methods-all list a.m few))
+    (ref-means a.m a.n i x h a.cat (bit own) methods (ap (λ (z : Head). z.rep) head) (ap (λ (z : Head). z.cat) head) (ap (λ (z : Head). z.own) head)
+    (methods-all list a.m few) ∙ ap (λ z. sheet_type (rep_of 0) a.cat z methods) (one-bit own))
     ∙ step_ok (after_methods a.cat own)
     (step_ok (after_own a.m a.n a.cat) (members-of a.m a.n a.cat a.c.at (split (drop a.c.at s))) (read_ok (λ b. b) s o.result _ o.ensures _ _ q))
     (read_ok (λ l. map method_is (take a.m l)) s g.result _ g.ensures.is list next w)

@@ -1,10 +1,11 @@
 -- A byte that is no digit ends the number, and so does the line's end; a digit stands behind those read.
 use mathlib.Core.Bool.{not}
-use mathlib.Core.Path.{ap, sym, refl, ◌∙◌}
-use Prim.Native.Nat.{◌+◌, ◌*◌}
+use mathlib.Core.Path.{◌≡◌, ap, sym, refl, ◌∙◌}
+use Prim.Native.Nat.{ℕ, ◌+◌, ◌*◌}
 use native.Mathlib.Omega.{arith}
+use lib.ListN.{length, drop}
 use borrow.Author.Tests.{not-true}
-use Rattle.spec_sheet.specs.Numbers.{limit}
+use Rattle.spec_sheet.specs.Numbers.{limit, digits}
 use Rattle.text_read.proofs.Laws.{digits-stop, digits_more, digits-end}
 use Rattle.text_read.proofs.digits_at.Goals as goal
 
@@ -18,4 +19,7 @@ loop-i-preserved c =
     (omega (arith, c.more-n.ensures), digits_more _ _ _ _ c.loop-i-test.true refl _ digit (c.more-n.ensures ∙ ap (λ z. limit (c.loop-i.n * 10 + z)) c.from.ensures) ∙ c.loop-i.invariant.1)
 
 pub returns-clause-is : goal.returns-clause-is
-returns-clause-is c = digits-end c.args.l.now c.loop-i.i _ (omega arith) ∙ c.loop-i.invariant.1
+returns-clause-is c =
+    let l = c.args.l.now in
+    let over : length l ≡ c.loop-i.i = omega arith in
+    digits-end l (length l) c.loop-i.n (omega arith) ∙ ap (λ (i : ℕ). digits c.loop-i.n (drop i l)) over ∙ c.loop-i.invariant.1
