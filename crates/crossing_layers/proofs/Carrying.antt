@@ -1,4 +1,4 @@
--- A reference over all layers: what the crossings leave is put together, and the rest of the way follows. And that each layer is met by what a crossing asks (C11).
+-- A reference over all layers: what the crossings leave is put together, and the rest of the way follows. And what the next crossing asks holds at each layer (C11).
 use mathlib.Core.Path.{◌≡◌, refl, sym, ap, ◌∙◌, subst}
 use mathlib.Core.Bool.{Bool, true, false}
 use mathlib.Core.List.{List, [], ◌∷◌, map}

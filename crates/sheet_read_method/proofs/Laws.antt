@@ -170,7 +170,7 @@ signed-means s count answer a k args xs p e q f =
     ∙ ap (λ (z : List ℕ). let m : Method = record { state = state_of s; args = z; answer = answer_of answer } in m) q
     ∙ ap (λ (z : ℕ). let m : Method = record { state = state_of s; args = xs; answer = answer_of z } in m) f
 
--- where a state permits nothing, the other bytes mean nothing (B16)
+-- where a state permits nothing, the other bytes are not looked at (H15)
 pub unsigned-means : (s count answer : ℕ) (args : List ℕ) → permit (state_of s) ≡ false → method_of (record { state = s; count = count; args = args; answer = answer }) ≡ bare (state_of s)
 unfolding means
 unsigned-means s count answer args p = ap (λ z. means (state_of s) z count args answer) p

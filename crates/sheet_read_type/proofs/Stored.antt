@@ -62,7 +62,7 @@ module _ (m n i : ℕ) (x : RawType) (h : i < n) where
       ∙ ap (λ (z : ℕ). sheet_type (rep_of 0) c (eqb z 1) (from m 0 (λ j. method_of (get_or x.methods j no_raw_method)))) r
       ∙ ap (sheet_type (rep_of 0) c (eqb o 1)) f
 
-  -- whatever its bytes of own and methods are (B15)
+  -- whatever its bytes of own and methods are (H15)
   pub number-means : (r c : ℕ) → 0 < r → x.rep ≡ r → x.cat ≡ c → type_of m n i x ≡ sheet_type (rep_of r) c false []
   unfolding meaning
   number-means r c k p q =
